@@ -1,0 +1,4 @@
+-- The laws that the other crates cite.
+pub mod Pieces
+pub mod Loops
+pub mod Writing

@@ -1,0 +1,15 @@
+-- `lists::count_of` meets its contract. Assumes nothing.
+use Prim.Native.Nat.{_-_}
+use lib.ListN.{length}
+use Rattle.lists.proofs.Loops.{Counted, loops}
+use Rattle.lists.proofs.count_of.Statement.{statement}
+use Rattle.lists.proofs.count_of.Tie as tie
+
+abbrev Inv-loop : tie.InvT-loop
+Inv-loop s c n₀ i₀ n i = Counted s c i n
+
+abbrev μ-loop : tie.MeasureT-loop
+μ-loop s c n₀ i₀ n i = length s - i
+
+pub count-of-spec : {M : Type 1} → statement M
+count-of-spec = tie.close (tie.spec Inv-loop μ-loop (λ c. search loops) (λ c. search loops) (λ c. search loops) (λ c. search loops) (λ c. search loops) (λ c. search loops) (λ c. search loops) (λ c. search loops))

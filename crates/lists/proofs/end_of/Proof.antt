@@ -1,0 +1,15 @@
+-- `lists::end_of` meets its contract. Assumes nothing.
+use Prim.Native.Nat.{_-_}
+use lib.ListN.{length}
+use Rattle.lists.proofs.Loops.{Sought, loops}
+use Rattle.lists.proofs.end_of.Statement.{statement}
+use Rattle.lists.proofs.end_of.Tie as tie
+
+abbrev Inv-loop : tie.InvT-loop
+Inv-loop s at c i₀ i = Sought s c at i
+
+abbrev μ-loop : tie.MeasureT-loop
+μ-loop s at c i₀ i = length s - i
+
+pub end-of-spec : {M : Type 1} → statement M
+end-of-spec = tie.close (tie.spec Inv-loop μ-loop (λ c. search loops) (λ c. search loops) (λ c. search loops) (λ c. search loops) (λ c. search loops) (λ c. search loops) (λ c. search loops))

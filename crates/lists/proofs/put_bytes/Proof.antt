@@ -1,0 +1,15 @@
+-- `lists::put_bytes` meets its contract: the first i bytes stand in `out`. Assumes nothing.
+use Prim.Native.Nat.{_-_}
+use lib.ListN.{length}
+use Rattle.lists.proofs.Writing.{Copied, copies}
+use Rattle.lists.proofs.put_bytes.Statement.{statement}
+use Rattle.lists.proofs.put_bytes.Tie as tie
+
+abbrev Inv-loop : tie.InvT-loop
+Inv-loop out₀ s i₀ out i = Copied out₀ s i out
+
+abbrev μ-loop : tie.MeasureT-loop
+μ-loop out₀ s i₀ out i = length s - i
+
+pub put-bytes-spec : {M : Type 1} → statement M
+put-bytes-spec = tie.close (tie.spec Inv-loop μ-loop (λ c. search copies) (λ c. search copies) (λ c. search copies) (λ c. search copies) (λ c. search copies) (λ c. search copies) (λ c. search copies) (λ c. search copies))

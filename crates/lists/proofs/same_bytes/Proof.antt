@@ -1,0 +1,15 @@
+-- `lists::same_bytes` meets its contract. Assumes nothing.
+use Prim.Native.Nat.{_-_}
+use lib.ListN.{length}
+use Rattle.lists.proofs.Loops.{Alike, loops}
+use Rattle.lists.proofs.same_bytes.Statement.{statement}
+use Rattle.lists.proofs.same_bytes.Tie as tie
+
+abbrev Inv-loop : tie.InvT-loop
+Inv-loop a b i₀ i = Alike a b i
+
+abbrev μ-loop : tie.MeasureT-loop
+μ-loop a b i₀ i = length a - i
+
+pub same-bytes-spec : {M : Type 1} → statement M
+same-bytes-spec = tie.close (tie.spec Inv-loop μ-loop (λ c. search loops) (λ c. search loops) (λ c. search loops) (λ c. search loops) (λ c. search loops) (λ c. search loops) (λ c. search loops) (λ c. search loops) (λ c. search loops))

@@ -1,0 +1,17 @@
+-- `program::all_plain` meets its contract. Assumes nothing.
+use Prim.Native.Nat.{_-_}
+use lib.ListN.{length}
+use Rattle.lists.proofs.Loops.{Held}
+use Rattle.program.specs.Names.{isPlain}
+use Rattle.program.proofs.Rules.{rules}
+use Rattle.program.proofs.all_plain.Statement.{statement}
+use Rattle.program.proofs.all_plain.Tie as tie
+
+abbrev Inv-loop : tie.InvT-loop
+Inv-loop s i₀ i = Held s isPlain 0 i
+
+abbrev μ-loop : tie.MeasureT-loop
+μ-loop s i₀ i = length s - i
+
+pub all-plain-spec : {M : Type 1} → statement M
+all-plain-spec = tie.close (tie.spec Inv-loop μ-loop (λ c. search rules) (λ c. search rules) (λ c. search rules) (λ c. search rules) (λ c. search rules) (λ c. search rules) (λ c. search rules) (λ c. search rules))

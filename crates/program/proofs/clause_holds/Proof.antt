@@ -1,0 +1,12 @@
+-- `program::clause_holds` meets its contract. Assumes nothing.
+use Rattle.program.specs.Valid.{isClause}
+use Rattle.program.proofs.Rules.{rules}
+use Rattle.program.proofs.clause_holds.Statement.{statement}
+use Rattle.program.proofs.clause_holds.Tie as tie
+
+returns : tie.Need-returns
+unfolding isClause
+returns c = rw (c .before .before .is-word .ensures, c .before .is-word2 .ensures, c .is-word3 .ensures)
+
+pub clause-holds-spec : {M : Type 1} → statement M
+clause-holds-spec = tie.close (tie.spec (λ c. search rules) (λ c. search rules) (λ c. search rules) returns)

@@ -1,0 +1,7 @@
+-- `program::letter_first` meets its contract. Assumes nothing.
+use Rattle.program.proofs.Rules.{rules}
+use Rattle.program.proofs.letter_first.Statement.{statement}
+use Rattle.program.proofs.letter_first.Tie as tie
+
+pub letter-first-spec : {M : Type 1} → statement M
+letter-first-spec = tie.close (tie.spec (λ c. search rules) (λ c. search rules) (λ c. search rules) (λ c. search rules))

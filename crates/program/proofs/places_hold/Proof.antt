@@ -1,0 +1,17 @@
+-- `program::places_hold` meets its contract. Assumes nothing.
+use Prim.Native.Nat.{_-_}
+use Rattle.sets.proofs.Lists.{Kept}
+use Rattle.program.specs.Names.{place}
+use Rattle.program.specs.Valid.{isPlace}
+use Rattle.program.proofs.Rules.{rules}
+use Rattle.program.proofs.places_hold.Statement.{statement}
+use Rattle.program.proofs.places_hold.Tie as tie
+
+abbrev Inv-loop : tie.InvT-loop
+Inv-loop names n i₀ i = Kept (place names) n isPlace i
+
+abbrev μ-loop : tie.MeasureT-loop
+μ-loop names n i₀ i = n - i
+
+pub places-hold-spec : {M : Type 1} → statement M
+places-hold-spec = tie.close (tie.spec Inv-loop μ-loop (λ c. search rules) (λ c. search rules) (λ c. search rules) (λ c. search rules) (λ c. search rules) (λ c. search rules) (λ c. search rules))

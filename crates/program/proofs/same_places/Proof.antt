@@ -1,0 +1,13 @@
+-- `program::same_places` meets its contract. Assumes nothing.
+use mathlib.Core.Path.{ap₂, _∙_}
+use Rattle.lists.specs.Bytes.{same}
+use Rattle.program.proofs.Places.{place-part}
+use Rattle.program.proofs.Rules.{rules}
+use Rattle.program.proofs.same_places.Statement.{statement}
+use Rattle.program.proofs.same_places.Tie as tie
+
+returns : tie.Need-returns
+returns c = let a = c .before .before .before .before .args in c .same-bytes .ensures ∙ ap₂ same (place-part _ (a .i)) (place-part _ (a .j))
+
+pub same-places-spec : {M : Type 1} → statement M
+same-places-spec = tie.close (tie.spec (λ c. search rules) (λ c. search rules) (λ c. search rules) (λ c. search rules) (λ c. search rules) (λ c. search rules) (λ c. search rules) (λ c. search rules) (λ c. search rules) (λ c. search rules) (λ c. search rules) returns)

@@ -1,0 +1,37 @@
+-- The clauses of a table. Assumes nothing.
+use mathlib.Core.List.{List}
+use Prim.Native.Nat.{ℕ}
+use lib.ListN.{getD}
+use Rattle.sets.specs.Lists.{tabulate}
+use Rattle.program.specs.declared.Program.{Program}
+
+-- "A clause is thus head, body and not-part, three sets of literals": each is a word.
+pub record Clause : Type 0 where
+  pub head : ℕ
+  pub body : ℕ
+  pub naf : ℕ
+
+abbrev pub clauseOf : ℕ → ℕ → ℕ → Clause
+clauseOf h b n = record { head = h; body = b; naf = n }
+
+abbrev pub clauseAt : List ℕ → List ℕ → List ℕ → ℕ → Clause
+clauseAt hs bs ns k = clauseOf (getD hs k 0) (getD bs k 0) (getD ns k 0)
+
+-- the first count clauses of three columns
+unfoldable pub rowsOf : List ℕ → List ℕ → List ℕ → ℕ → List Clause
+unfolding tabulate
+rowsOf hs bs ns count = tabulate (clauseAt hs bs ns) count
+
+-- the table's clauses, numbered from 0 as they stand in the book
+unfoldable pub rows : Program → List Clause
+unfolding rowsOf
+rows p = rowsOf (p .heads) (p .bodies) (p .nafs) (p .«clause_count»)
+
+-- the clauses that count: all of them
+unfoldable pub clauses : Program → List Clause
+unfolding rows
+clauses p = rows p
+
+-- the clause without any literal
+abbrev pub noClause : Clause
+noClause = clauseOf 0 0 0

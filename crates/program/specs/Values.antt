@@ -1,0 +1,29 @@
+-- The values of an atom in a word, and of an atom in a clause. Assumes nothing.
+use mathlib.Core.Bool.{Bool}
+use mathlib.Core.List.{List}
+use Prim.Native.Nat.{ℕ, _+_, _*_, _/_, _%_, _^_}
+use lib.Dec.{ltb}
+use Rattle.sets.specs.Lists.{tabulate}
+use Rattle.program.specs.Clauses.{Clause}
+
+-- "With n names, name i (from 0) has bit 2i for itself and bit 2i+1 for its negation": a word over n atoms has no bit at 2n or above.
+unfoldable pub isWord : ℕ → ℕ → Bool
+isWord n w = ltb w (2 ^ (2 * n))
+
+-- "The two bits of a name are its value: 0 undefined, 1 true, 2 false, 3 contradictory."
+unfoldable pub valueIn : ℕ → ℕ → ℕ
+valueIn w i = w / 2 ^ (2 * i) % 4
+
+-- A clause's value for a name: "the sum of" 1 and 2 for the head, 4 and 8 for the body, 16 and 32 for the not-part.
+unfoldable pub clauseValue : Clause → ℕ → ℕ
+unfolding valueIn
+clauseValue c i = valueIn (c .head) i + 4 * valueIn (c .body) i + 16 * valueIn (c .naf) i
+
+-- a word's values for n atoms; a clause's
+unfoldable pub wordValues : ℕ → ℕ → List ℕ
+unfolding tabulate valueIn
+wordValues n w = tabulate (valueIn w) n
+
+unfoldable pub clauseValues : ℕ → Clause → List ℕ
+unfolding tabulate clauseValue
+clauseValues n c = tabulate (clauseValue c) n

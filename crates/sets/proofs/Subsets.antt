@@ -1,0 +1,80 @@
+-- The subset of a word that comes next. Assumes nothing.
+use mathlib.Core.Path.{_≡_, refl, sym, ap, _∙_, subst}
+use mathlib.Core.Logic.{_⊎_, inl, inr, ⊎-elim}
+use Prim.Native.Nat.{ℕ, zero, suc, _+_, _-_, _*_, _/_, _%_, _^_, _≤_, _<_, min}
+use native.Mathlib.Nat.{eq-zero-or-pos, pow-suc, div-add-mod'}
+use native.Mathlib.Omega.{arith}
+use lib.Bits.{bitAnd, and-step, and-le-r}
+use lib.Pow.{pow-pos}
+use Rattle.sets.specs.Words.{Inside}
+use Rattle.sets.proofs.Digits.{digit-and, digits-ext}
+
+inside-half : (j I : ℕ) → Inside j I → Inside (j / 2) (I / 2)
+inside-half j I h = omega (arith, and-step j I)
+
+inside-odd : (j I : ℕ) → Inside j I → j % 2 ≤ I % 2
+inside-odd j I h = omega (arith, and-step j I)
+
+half-top : (P I j : ℕ) → I < P * 2 → j % 2 ≤ I % 2 → (P * 2 - 1 - I + j) / 2 ≡ P - 1 - I / 2 + j / 2
+half-top P I j l o = omega arith
+
+odd-top : (P I j : ℕ) → I < P * 2 → j % 2 ≤ I % 2 → min ((P * 2 - 1 - I + j) % 2) (I % 2) ≡ j % 2
+odd-top P I j l o = omega arith
+
+-- of the words of k bits that meet I in j, the greatest
+pub top-of : (k I j : ℕ) → I < 2 ^ k → Inside j I → bitAnd (2 ^ k - 1 - I + j) I ≡ j
+top-of zero I j l h = omega (arith, and-le-r (2 ^ 0 - 1 - I + j) I, and-le-r j I)
+top-of (suc k) I j l h =
+    let m : I < 2 ^ k * 2 = omega (arith, pow-suc 2 k) in
+    let o = inside-odd j I h in
+    rw (pow-suc 2 k) (and-step (2 ^ k * 2 - 1 - I + j) I ∙ rw (half-top (2 ^ k) I j m o, odd-top (2 ^ k) I j m o, top-of k (I / 2) (j / 2) (omega arith) (inside-half j I h)) (div-add-mod' j 2))
+
+pub inside-and : (x I : ℕ) → Inside (bitAnd x I) I
+inside-and x I = digits-ext (bitAnd (bitAnd x I) I) (bitAnd x I) (λ k. omega (arith, digit-and k (bitAnd x I) I, digit-and k x I))
+
+-- m is the least word inside I above j
+pub record Next (I j m : ℕ) : Type 0 where
+  pub inside : Inside m I
+  pub above : j < m
+  pub none : (i : ℕ) → j < i → i < m → Inside i I → ⊥
+
+-- the lowest bit is in I and not in j: it is added
+half-add : (P I j : ℕ) → I < P * 2 → j % 2 < I % 2 → (P * 2 - I + j) / 2 ≡ P - 1 - I / 2 + j / 2
+half-add P I j l o = omega arith
+
+odd-add : (P I j : ℕ) → I < P * 2 → j % 2 < I % 2 → min ((P * 2 - I + j) % 2) (I % 2) ≡ 1
+odd-add P I j l o = omega arith
+
+-- otherwise it is cleared, and the bits above go on
+half-go : (P I j : ℕ) → I < P * 2 → j % 2 ≡ I % 2 → (P * 2 - I + j) / 2 ≡ P - I / 2 + j / 2
+half-go P I j l o = omega arith
+
+odd-go : (P I j : ℕ) → I < P * 2 → j % 2 ≡ I % 2 → min ((P * 2 - I + j) % 2) (I % 2) ≡ 0
+odd-go P I j l o = omega arith
+
+add-low : (I j m : ℕ) → Inside m I → m ≡ j / 2 * 2 + 1 → j % 2 < I % 2 → Next I j m
+add-low I j m h e o = record { inside = h; above = omega arith; none = λ i a b s. omega arith }
+
+go-high : (I j m q : ℕ) → Inside m I → m ≡ q * 2 + 0 → j % 2 ≡ I % 2 → Next (I / 2) (j / 2) q → Next I j m
+go-high I j m q h e o n = record {
+  inside = h;
+  above = omega (arith, n .above);
+  none = λ i a b s. let p = inside-odd i I s in n .none (i / 2) (omega arith) (omega arith) (inside-half i I s);
+}
+
+pub next-is : (k I j : ℕ) → I < 2 ^ k → Inside j I → j < I → Next I j (bitAnd (2 ^ k - I + j) I)
+next-is zero I j l h s = absurd (omega arith)
+next-is (suc k) I j l h s =
+    let l′ : I < 2 ^ k * 2 = omega (arith, pow-suc 2 k) in
+    let o = inside-odd j I h in
+    rw (pow-suc 2 k) (⊎-elim
+    (λ (e : I % 2 - j % 2 ≡ 0).
+    let q : j % 2 ≡ I % 2 = omega arith in
+    go-high I j _ (bitAnd (2 ^ k - I / 2 + j / 2) (I / 2)) (inside-and (2 ^ k * 2 - I + j) I)
+    (and-step (2 ^ k * 2 - I + j) I ∙ rw (half-go (2 ^ k) I j l′ q, odd-go (2 ^ k) I j l′ q)) q
+    (next-is k (I / 2) (j / 2) (omega arith) (inside-half j I h) (omega arith)))
+    (λ (e : 0 < I % 2 - j % 2).
+    let q : j % 2 < I % 2 = omega arith in
+    add-low I j _ (inside-and (2 ^ k * 2 - I + j) I)
+    (and-step (2 ^ k * 2 - I + j) I ∙ rw (half-add (2 ^ k) I j l′ q, odd-add (2 ^ k) I j l′ q, top-of k (I / 2) (j / 2) (omega arith) (inside-half j I h))) q)
+    (eq-zero-or-pos (I % 2 - j % 2)))
