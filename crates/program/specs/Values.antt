@@ -1,10 +1,10 @@
 -- The values of an atom in a word, and of an atom in a clause. Assumes nothing.
 use mathlib.Core.Bool.{Bool}
-use mathlib.Core.List.{List}
+use mathlib.Core.List.{List, [], _∷_, map}
 use Prim.Native.Nat.{ℕ, _+_, _*_, _/_, _%_, _^_}
 use lib.Dec.{ltb}
 use Rattle.sets.specs.Lists.{tabulate}
-use Rattle.program.specs.Clauses.{Clause}
+use Rattle.program.specs.Clauses.{Clause, clauseOf}
 
 -- "With n names, name i (from 0) has bit 2i for itself and bit 2i+1 for its negation": a word over n atoms has no bit at 2n or above.
 unfoldable pub isWord : ℕ → ℕ → Bool
@@ -18,6 +18,15 @@ valueIn w i = w / 2 ^ (2 * i) % 4
 unfoldable pub clauseValue : Clause → ℕ → ℕ
 unfolding valueIn
 clauseValue c i = valueIn (c .head) i + 4 * valueIn (c .body) i + 16 * valueIn (c .naf) i
+
+-- the word with these values, that of atom 0 first; the clause with these
+unfoldable pub wordOf : List ℕ → ℕ
+wordOf [] = 0
+wordOf (v ∷ vs) = v + 4 * wordOf vs
+
+unfoldable pub clauseOfValues : List ℕ → Clause
+unfolding wordOf
+clauseOfValues vs = clauseOf (wordOf (map (λ v. v % 4) vs)) (wordOf (map (λ v. v / 4 % 4) vs)) (wordOf (map (λ v. v / 16 % 4) vs))
 
 -- a word's values for n atoms; a clause's
 unfoldable pub wordValues : ℕ → ℕ → List ℕ

@@ -1,15 +1,17 @@
 -- Laws of digits, and what the tests on words say digit by digit. Assumes nothing.
 use mathlib.Core.Path.{_≡_, refl, sym, ap, ap₂, _∙_, subst, fun-ext}
 use mathlib.Core.Logic.{_↔_, _⊎_, inl, inr, ⊎-elim}
-use mathlib.Core.Bool.{Bool, true, false, not, _&&_, _||_}
+use mathlib.Core.Bool.{Bool, true, false, cond, not, _&&_, _||_}
 use Prim.Native.Nat.{ℕ, zero, suc, _+_, _*_, _/_, _%_, _^_, _≤_, _<_, min, max}
-use native.Mathlib.Nat.{eq-zero-or-pos, pow-suc}
+use native.Mathlib.Nat.{eq-zero-or-pos, pow-suc, div-one}
+use native.Mathlib.Numerals.{one-add}
+use lib.Pow.{shr-shr}
 use native.Mathlib.Omega.{arith}
 use lib.Dec.{T, eqb, eqb→eq, T-not, not-T}
 use lib.Bits.{bitAnd, bitOr, and-step, or-step, and-comm, and-le-r}
 use borrow.Author.Tests.{eqb-true, eqb-false, eq-eqb, ne-eqb}
 use Rattle.sets.specs.Words.{Set, _⊑_, digit, bit, Inside, Apart, inside, apart, meets}
-use Rattle.sets.proofs.Tests.{dec, lt-or-ge, true-T, T-true, T-ext, T-and, T-and-l, T-and-r}
+use Rattle.sets.proofs.Tests.{dec, lt-or-ge, true-T, not-T-false, T-ext, T-and, T-and-l, T-and-r}
 
 -- ---- digits
 pub digit-lt : (k w : ℕ) → digit k w < 2
@@ -166,3 +168,57 @@ bit-or a b i = go (digit i a) (digit i b) (digit i (bitOr a b)) (digit-lt i a) (
 
 pub bit-small : (w m i : ℕ) → w < 2 ^ m → T (bit w i) → i < m
 bit-small w m i h t = ⊎-elim (λ l. l) (λ g. absurd (let z = digit-small i m w h g in let e = bit-digit w i t in omega arith)) (lt-or-ge i m)
+
+pub digit-div : (k w : ℕ) → digit k w ≡ w / 2 ^ k % 2
+unfolding digit
+digit-div zero w = ap (λ x. x % 2) (sym (div-one w))
+digit-div (suc k) w =
+    let e : w / 2 / 2 ^ k ≡ w / 2 ^ suc k = shr-shr w 1 k ∙ ap (λ x. w / 2 ^ x) (one-add k) in
+    digit-div k (w / 2) ∙ ap (λ x. x % 2) e
+
+-- ---- a finite set of numbers is a word
+-- the word of a set's members below k
+unfoldable pub wordFrom : ℕ → Set ℕ → ℕ
+wordFrom zero J = 0
+wordFrom (suc k) J = cond (J 0) 1 0 + wordFrom k (λ i. J (suc i)) * 2
+
+from-in : (k : ℕ) (J : Set ℕ) (i : ℕ) → i < k → digit i (wordFrom k J) ≡ cond (J i) 1 0
+unfolding wordFrom digit
+from-in zero J i h = absurd (omega arith)
+from-in (suc k) J zero h = go (J 0)
+  where
+    go : (b : Bool) → (cond b 1 0 + wordFrom k (λ i. J (suc i)) * 2) % 2 ≡ cond b 1 0
+    go true = omega arith
+    go false = omega arith
+from-in (suc k) J (suc i) h = ap (digit i) (go (J 0)) ∙ from-in k (λ j. J (suc j)) i (omega arith)
+  where
+    go : (b : Bool) → (cond b 1 0 + wordFrom k (λ j. J (suc j)) * 2) / 2 ≡ wordFrom k (λ j. J (suc j))
+    go true = omega arith
+    go false = omega arith
+
+from-lt : (k : ℕ) (J : Set ℕ) → wordFrom k J < 2 ^ k
+unfolding wordFrom
+from-lt zero J = omega arith
+from-lt (suc k) J = go (J 0) (from-lt k (λ i. J (suc i)))
+  where
+    go : (b : Bool) → wordFrom k (λ i. J (suc i)) < 2 ^ k → cond b 1 0 + wordFrom k (λ i. J (suc i)) * 2 < 2 ^ suc k
+    go true h = omega (arith, pow-suc 2 k)
+    go false h = omega (arith, pow-suc 2 k)
+
+pub set-word : (m : ℕ) (J : Set ℕ) → ((x : ℕ) → T (J x) → x < m) → (w : ℕ) × (bit w ≡ J)
+unfolding bit
+set-word m J h = (
+  wordFrom m J,
+  fun-ext (λ i. ⊎-elim
+      (λ (l : i < m). ap (λ x. eqb x 1) (from-in m J i l) ∙ one (J i))
+      (λ (g : m ≤ i). ap (λ x. eqb x 1) (digit-small i m (wordFrom m J) (from-lt m J) g) ∙ sym (not-T-false (J i) (λ t. let k = h i t in omega arith)))
+      (lt-or-ge i m)),
+)
+  where
+    one : (b : Bool) → eqb (cond b 1 0) 1 ≡ b
+    one true = refl
+    one false = refl
+
+pub below-pow : (n : ℕ) → n < 2 ^ n
+below-pow zero = omega arith
+below-pow (suc n) = omega (arith, below-pow n, pow-suc 2 n)

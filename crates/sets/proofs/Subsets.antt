@@ -6,7 +6,7 @@ use native.Mathlib.Nat.{eq-zero-or-pos, pow-suc, div-add-mod'}
 use native.Mathlib.Omega.{arith}
 use lib.Bits.{bitAnd, and-step, and-le-r}
 use lib.Pow.{pow-pos}
-use Rattle.sets.specs.Words.{Inside}
+use Rattle.sets.specs.Words.{Inside, Next}
 use Rattle.sets.proofs.Digits.{digit-and, digits-ext}
 
 inside-half : (j I : ℕ) → Inside j I → Inside (j / 2) (I / 2)
@@ -31,12 +31,6 @@ top-of (suc k) I j l h =
 
 pub inside-and : (x I : ℕ) → Inside (bitAnd x I) I
 inside-and x I = digits-ext (bitAnd (bitAnd x I) I) (bitAnd x I) (λ k. omega (arith, digit-and k (bitAnd x I) I, digit-and k x I))
-
--- m is the least word inside I above j
-pub record Next (I j m : ℕ) : Type 0 where
-  pub inside : Inside m I
-  pub above : j < m
-  pub none : (i : ℕ) → j < i → i < m → Inside i I → ⊥
 
 -- the lowest bit is in I and not in j: it is added
 half-add : (P I j : ℕ) → I < P * 2 → j % 2 < I % 2 → (P * 2 - I + j) / 2 ≡ P - 1 - I / 2 + j / 2

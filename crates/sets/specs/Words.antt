@@ -1,7 +1,7 @@
 -- Words as finite sets of numbers. Assumes nothing.
 use mathlib.Core.Path.{_≡_}
 use mathlib.Core.Bool.{Bool, not}
-use Prim.Native.Nat.{ℕ, zero, suc, _/_, _%_}
+use Prim.Native.Nat.{ℕ, zero, suc, _/_, _%_, _<_}
 use lib.Dec.{T, eqb}
 use lib.Bits.{bitAnd}
 
@@ -39,3 +39,9 @@ apart a b = eqb (bitAnd a b) 0
 
 abbrev pub meets : ℕ → ℕ → Bool
 meets a b = not (apart a b)
+
+-- m is the least word inside I above j
+pub record Next (I j m : ℕ) : Type 0 where
+  pub inside : Inside m I
+  pub above : j < m
+  pub none : (i : ℕ) → j < i → i < m → Inside i I → ⊥

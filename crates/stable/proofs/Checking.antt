@@ -1,0 +1,120 @@
+-- Laws of the check's loops: the first clause that is violated, and the walk of the subsets. Assumes nothing.
+use mathlib.Core.Path.{_≡_, refl, sym, ap, _∙_}
+use mathlib.Core.Bool.{Bool, true, false, cond, not, _&&_, _||_, and-false}
+use mathlib.Core.List.{List, [], _∷_, map}
+use Prim.Native.Nat.{ℕ, zero, suc, _+_, _≤_, _<_}
+use native.Mathlib.Omega.{arith}
+use lib.Dec.{eqb, ltb, eqb·zero-suc, eqb·suc-suc}
+use lib.Bits.{bitAnd, and-le-r, and-zero-l}
+use lib.ListN.{length, getD}
+use borrow.Author.Tests.{lt-ltb, le-ltb, eq-eqb, ne-eqb}
+use Rattle.sets.specs.Lists.{every, sift}
+use Rattle.sets.specs.Words.{Inside, Next, inside, apart}
+use Rattle.sets.specs.Least.{least}
+use Rattle.sets.proofs.Least.{Searched, miss, leap, least-suc}
+use Rattle.program.specs.Clauses.{Clause, clauseOf, clauseAt, rowsOf, noClause}
+use Rattle.program.proofs.Clauses.{length-rows, row-at}
+use Rattle.stable.specs.declared.Checked.{Checked}
+use Rattle.stable.specs.declared.Checked.the-variants.{Violated, Smaller, Stable}
+use Rattle.stable.specs.Interpretations.{satisfies, reduct, isModel, violates, violatedAt, smaller, leastSmaller}
+use Rattle.stable.specs.Check.{firstViolated, verdict}
+
+-- ---- a clause more
+strip-violates : (w : ℕ) (c : Clause) → satisfies w (clauseOf (c .head) (c .body) 0) ≡ not (inside (c .body) w && apart (c .head) w)
+unfolding satisfies
+strip-violates w c = rw (and-zero-l w) (go (inside (c .body) w) (apart (c .head) w))
+  where
+    go : (a d : Bool) → not (a && true) || not d ≡ not (a && d)
+    go true true = refl
+    go true false = refl
+    go false d = refl
+
+pub model-cons : (c : Clause) (P : List Clause) (I w : ℕ) → isModel (reduct (c ∷ P) I) w ≡ not (violates I w c) && isModel (reduct P I) w
+unfolding isModel reduct every sift violates
+model-cons c P I w = go (apart (c .naf) I) (strip-violates w c)
+  where
+    R : List Clause
+    R = sift (λ d. apart (d .naf) I) P
+
+    go : (b : Bool) → satisfies w (clauseOf (c .head) (c .body) 0) ≡ not (inside (c .body) w && apart (c .head) w)
+        → every (satisfies w) (map (λ d. clauseOf (d .head) (d .body) 0) (cond b (c ∷ sift (λ d. apart (d .naf) I) P) (sift (λ d. apart (d .naf) I) P)))
+        ≡ not (inside (c .body) w && b && apart (c .head) w) && every (satisfies w) (map (λ d. clauseOf (d .head) (d .body) 0) (sift (λ d. apart (d .naf) I) P))
+    go true e = rw e (same (inside (c .body) w) (apart (c .head) w))
+      where
+        same : (a d : Bool) → not (a && d) && every (satisfies w) (map (λ d. clauseOf (d .head) (d .body) 0) (sift (λ d. apart (d .naf) I) P))
+            ≡ not (a && true && d) && every (satisfies w) (map (λ d. clauseOf (d .head) (d .body) 0) (sift (λ d. apart (d .naf) I) P))
+        same true d = refl
+        same false d = refl
+    go false e = rw (and-false (inside (c .body) w))
+
+-- a word satisfies the reduct where no clause is violated
+pub model-least : (P : List Clause) (I w : ℕ) → eqb (least (violatedAt P I w) (length P)) (length P) ≡ isModel (reduct P I) w
+unfolding violatedAt least reduct sift isModel every
+model-least [] I w = refl
+model-least (c ∷ P) I w = rw (model-cons, least-suc (violatedAt (c ∷ P) I w) (length P)) (go (violates I w c) (model-least P I w))
+  where
+    go : (b : Bool) → eqb (least (violatedAt P I w) (length P)) (length P) ≡ isModel (reduct P I) w
+        → eqb (cond b 0 (suc (least (violatedAt P I w) (length P)))) (suc (length P)) ≡ not b && isModel (reduct P I) w
+    go true e = eqb·zero-suc (length P)
+    go false e = eqb·suc-suc (least (violatedAt P I w) (length P)) (length P) ∙ e
+
+-- a clause is violated by the word that makes the reduct exactly where the word does not satisfy it
+pub violates-self : (I : ℕ) (c : Clause) → violates I I c ≡ not (satisfies I c)
+unfolding violates satisfies
+violates-self I c = go (inside (c .body) I) (apart (c .naf) I) (apart (c .head) I)
+  where
+    go : (a b d : Bool) → a && b && d ≡ not (not (a && b) || not d)
+    go true true true = refl
+    go true true false = refl
+    go true false d = refl
+    go false b d = refl
+
+pub first-violated-is : (P : List Clause) (I : ℕ) → firstViolated P I ≡ least (violatedAt P I I) (length P)
+unfolding firstViolated violatedAt
+first-violated-is P I = ap (λ (f : ℕ → Bool). least f (length P)) (λ i k. sym (violates-self I (getD P k noClause)) i)
+
+-- ---- the loops, over the clauses in three columns
+module _ (hs bs ns : List ℕ) (n I : ℕ) where
+  pub tested : (w k : ℕ) {r b : Bool} → k < n → r ≡ violates I w (clauseAt hs bs ns k) → r ≡ b → violatedAt (rowsOf hs bs ns n) I w k ≡ b
+  unfolding violatedAt
+  tested w k h e t = ap (violates I w) (row-at hs bs ns n k noClause h) ∙ sym e ∙ t
+
+  model-rows : (w : ℕ) → eqb (least (violatedAt (rowsOf hs bs ns n) I w) n) n ≡ isModel (reduct (rowsOf hs bs ns n) I) w
+  model-rows w = rw (length-rows hs bs ns n) at (model-least (rowsOf hs bs ns n) I w)
+
+  pub smaller-is : (j r : ℕ) → Inside j I → r ≡ least (violatedAt (rowsOf hs bs ns n) I j) n → r ≡ n → smaller (reduct (rowsOf hs bs ns n) I) I j ≡ true
+  unfolding smaller
+  smaller-is j r h e q = rw (eq-eqb (bitAnd j I) j h, ← model-rows j, ← e) (eq-eqb r n q)
+
+  pub smaller-not : (j r : ℕ) → Inside j I → r ≡ least (violatedAt (rowsOf hs bs ns n) I j) n → (r ≡ n → ⊥) → smaller (reduct (rowsOf hs bs ns n) I) I j ≡ false
+  unfolding smaller
+  smaller-not j r h e q = rw (eq-eqb (bitAnd j I) j h, ← model-rows j, ← e) (ne-eqb r n q)
+
+  pub least-is : (j : ℕ) → j ≡ least (smaller (reduct (rowsOf hs bs ns n) I) I) I → j ≡ leastSmaller (rowsOf hs bs ns n) I
+  unfolding leastSmaller
+  least-is j e = e
+
+  -- ---- the answer
+  violated-first : (v : ℕ) → v ≡ least (violatedAt (rowsOf hs bs ns n) I I) n → v ≡ firstViolated (rowsOf hs bs ns n) I
+  violated-first v e = e ∙ ap (least (violatedAt (rowsOf hs bs ns n) I I)) (sym (length-rows hs bs ns n)) ∙ sym (first-violated-is (rowsOf hs bs ns n) I)
+
+  pub is-violated : (v : ℕ) → v ≡ least (violatedAt (rowsOf hs bs ns n) I I) n → v < n → Violated v ≡ verdict (rowsOf hs bs ns n) (rowsOf hs bs ns n) I
+  unfolding verdict
+  is-violated v e h = rw (← violated-first v e, length-rows hs bs ns n, lt-ltb v n h)
+
+  pub is-smaller : (v j : ℕ) → v ≡ least (violatedAt (rowsOf hs bs ns n) I I) n → n ≤ v → j ≡ leastSmaller (rowsOf hs bs ns n) I → j < I
+      → Smaller j ≡ verdict (rowsOf hs bs ns n) (rowsOf hs bs ns n) I
+  unfolding verdict
+  is-smaller v j e h f l = rw (← violated-first v e, length-rows hs bs ns n, le-ltb v n h, ← f, lt-ltb j I l)
+
+  pub is-stable : (v j : ℕ) → v ≡ least (violatedAt (rowsOf hs bs ns n) I I) n → n ≤ v → j ≡ leastSmaller (rowsOf hs bs ns n) I → I ≤ j
+      → Stable ≡ verdict (rowsOf hs bs ns n) (rowsOf hs bs ns n) I
+  unfolding verdict
+  is-stable v j e h f l = rw (← violated-first v e, length-rows hs bs ns n, le-ltb v n h, ← f, le-ltb j I l)
+
+-- a turn of the walk: the word j fails the test, and the next subset is m
+pub walk-on : (R : List Clause) (I j m : ℕ) → Searched (smaller R I) I j → j < I → smaller R I j ≡ false → Next I j m → Searched (smaller R I) I m
+unfolding smaller
+walk-on R I j m s l f x =
+    leap (smaller R I) I (j + 1) m (miss (smaller R I) I j s l f) (omega (arith, x .above)) (omega (arith, and-le-r m I, x .inside))
+    (λ k a b. rw (ne-eqb (bitAnd k I) k (λ q. x .none k (omega arith) b q)))

@@ -1,0 +1,17 @@
+-- `stable::first_violated` meets its contract. Assumes nothing.
+use Prim.Native.Nat.{_-_}
+use Rattle.sets.proofs.Least.{Searched}
+use Rattle.program.specs.Clauses.{rowsOf}
+use Rattle.stable.specs.Interpretations.{violatedAt}
+use Rattle.stable.proofs.Rules.{rules}
+use Rattle.stable.proofs.first_violated.Statement.{statement}
+use Rattle.stable.proofs.first_violated.Tie as tie
+
+abbrev Inv-loop : tie.InvT-loop
+Inv-loop heads bodies nafs count by w k₀ k = Searched (violatedAt (rowsOf heads bodies nafs count) by w) count k
+
+abbrev μ-loop : tie.MeasureT-loop
+μ-loop heads bodies nafs count by w k₀ k = count - k
+
+pub first-violated-spec : {M : Type 1} → statement M
+first-violated-spec = tie.close (tie.spec Inv-loop μ-loop (λ c. search rules) (λ c. search rules) (λ c. search rules) (λ c. search rules) (λ c. search rules) (λ c. search rules) (λ c. search rules) (λ c. search rules) (λ c. search rules) (λ c. search rules) (λ c. search rules) (λ c. search rules) (λ c. search rules))

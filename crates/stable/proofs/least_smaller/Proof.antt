@@ -1,0 +1,18 @@
+-- `stable::least_smaller` meets its contract: the walk has looked at every subset below j, and j is one. Assumes nothing.
+use Prim.Native.Nat.{_-_}
+use Rattle.sets.specs.Words.{Inside}
+use Rattle.sets.proofs.Least.{Searched}
+use Rattle.program.specs.Clauses.{rowsOf}
+use Rattle.stable.specs.Interpretations.{reduct, smaller}
+use Rattle.stable.proofs.Rules.{rules}
+use Rattle.stable.proofs.least_smaller.Statement.{statement}
+use Rattle.stable.proofs.least_smaller.Tie as tie
+
+abbrev Inv-loop : tie.InvT-loop
+Inv-loop heads bodies nafs count candidate j₀ j = Searched (smaller (reduct (rowsOf heads bodies nafs count) candidate) candidate) candidate j × Inside j candidate
+
+abbrev μ-loop : tie.MeasureT-loop
+μ-loop heads bodies nafs count candidate j₀ j = candidate - j
+
+pub least-smaller-spec : {M : Type 1} → statement M
+least-smaller-spec = tie.close (tie.spec Inv-loop μ-loop (λ c. search rules) (λ c. search rules) (λ c. search rules) (λ c. search rules) (λ c. search rules) (λ c. search rules) (λ c. search rules))

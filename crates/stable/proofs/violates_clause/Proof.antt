@@ -1,0 +1,12 @@
+-- `stable::violates_clause` meets its contract. Assumes nothing.
+use Rattle.stable.specs.Interpretations.{violates}
+use Rattle.stable.proofs.Rules.{rules}
+use Rattle.stable.proofs.violates_clause.Statement.{statement}
+use Rattle.stable.proofs.violates_clause.Tie as tie
+
+returns : tie.Need-returns
+unfolding violates
+returns c = search rules
+
+pub violates-clause-spec : {M : Type 1} → statement M
+violates-clause-spec = tie.close (tie.spec returns)

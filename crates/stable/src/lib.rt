@@ -1,0 +1,111 @@
+// The check of one candidate against Definition 3.1.
+ghost use mathlib.Core.Path.{_≡_};
+ghost use Prim.Native.Nat.{_≤_, _<_};
+ghost use Rattle.sets.specs.Words.{Inside, Next};
+ghost use Rattle.sets.specs.Least.{least};
+ghost use Rattle.program.specs.Clauses.{clauseOf, rowsOf};
+ghost use Rattle.stable.specs.Interpretations.{violates, violatedAt, leastSmaller};
+ghost use Rattle.stable.specs.Check.{verdict, Checks};
+use program::Program;
+
+// What the check of a candidate finds.
+pub enum Checked {
+    Refused(u8),
+    Violated(u32),
+    Smaller(u32),
+    Stable,
+}
+
+// Whether the reduct by `by` keeps the clause and `w` violates what it keeps.
+pub fn violates_clause(head: u32, body: u32, naf: u32, by: u32, w: u32) -> bool
+    ensures { λ r. ⌜ r ≡ violates by w (clauseOf head body naf) ⌝ }
+{
+    (body & w == body) & (naf & by == 0) & (head & w == 0)
+}
+
+// The least number of a clause that the reduct by `by` keeps and `w` violates; `count` where there is none.
+fn first_violated<'a>(
+    heads: &'a [u32; 64],
+    bodies: &'a [u32; 64],
+    nafs: &'a [u32; 64],
+    count: usize,
+    by: u32,
+    w: u32,
+) -> usize
+    requires { ⌜ count ≤ 64 ⌝ }
+    ensures { λ r. ⌜ r ≡ least (violatedAt (rowsOf (now (heads .entry)) (now (bodies .entry)) (now (nafs .entry)) count) by w) count ⌝ }
+{
+    let mut k: usize = 0;
+    while k < count {
+        if violates_clause(heads[k], bodies[k], nafs[k], by, w) {
+            return k;
+        }
+        k += 1;
+    }
+    count
+}
+
+// The least subset of `word` above its subset `j`.
+fn next_subset(word: u32, j: u32) -> u32
+    requires { ⌜ Inside j word × (j < word) ⌝ }
+    ensures { λ r. ⌜ Next word j r ⌝ }
+{
+    (0xffff_ffff - word + j + 1) & word
+}
+
+// The least proper subset of `candidate` that satisfies the reduct by it; `candidate` where there is none.
+fn least_smaller<'a>(
+    heads: &'a [u32; 64],
+    bodies: &'a [u32; 64],
+    nafs: &'a [u32; 64],
+    count: usize,
+    candidate: u32,
+) -> u32
+    requires { ⌜ count ≤ 64 ⌝ }
+    ensures { λ r. ⌜ r ≡ leastSmaller (rowsOf (now (heads .entry)) (now (bodies .entry)) (now (nafs .entry)) count) candidate ⌝ }
+{
+    let mut j: u32 = 0;
+    while j < candidate {
+        if first_violated(heads, bodies, nafs, count, candidate, j) == count {
+            return j;
+        }
+        j = next_subset(candidate, j);
+    }
+    candidate
+}
+
+fn check_clauses<'a>(
+    heads: &'a [u32; 64],
+    bodies: &'a [u32; 64],
+    nafs: &'a [u32; 64],
+    count: usize,
+    candidate: u32,
+) -> Checked
+    requires { ⌜ count ≤ 64 ⌝ }
+    ensures { λ r. ⌜ r ≡ verdict (rowsOf (now (heads .entry)) (now (bodies .entry)) (now (nafs .entry)) count) (rowsOf (now (heads .entry)) (now (bodies .entry)) (now (nafs .entry)) count) candidate ⌝ }
+{
+    let v = first_violated(heads, bodies, nafs, count, candidate, candidate);
+    if v < count {
+        return Checked::Violated(v as u32);
+    }
+    let j = least_smaller(heads, bodies, nafs, count, candidate);
+    if j < candidate {
+        return Checked::Smaller(j);
+    }
+    Checked::Stable
+}
+
+// The check of one candidate, by value: the table is read once and its arrays are lent from here on.
+pub fn check(p: Program, candidate: u32) -> Checked
+    ensures { λ r. ⌜ Checks p candidate r ⌝ }
+{
+    if !program::is_valid(p) {
+        return Checked::Refused(program::INVALID_PROGRAM);
+    }
+    let n = p.atom_count;
+    if !program::is_word(n, candidate) {
+        return Checked::Refused(program::OUTSIDE_WORD);
+    }
+    let count = p.clause_count;
+    check_clauses(&p.heads, &p.bodies, &p.nafs, count, candidate)
+}
