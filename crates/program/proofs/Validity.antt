@@ -92,9 +92,9 @@ module _ (p : Program) (v : valid p ≡ true) where
 
 -- a clause's words lie below 2 ^ m
 pub record Below (m : ℕ) (c : Clause) : Type 0 where
-  pub head : c .head < 2 ^ m
-  pub body : c .body < 2 ^ m
-  pub naf : c .naf < 2 ^ m
+  pub heads : c .head < 2 ^ m
+  pub bodies : c .body < 2 ^ m
+  pub nafs : c .naf < 2 ^ m
 
 pub clause-below : (n : ℕ) (c : Clause) → isClause n c ≡ true → Below (2 * n) c
 unfolding isClause isWord
@@ -102,7 +102,7 @@ clause-below n c h =
     let a = both-true (isWord n (c .head) && isWord n (c .body) && isWord n (c .naf)) (not (eqb (c .head) 0 && eqb (c .body) 0 && eqb (c .naf) 0)) h in
     let b = both-true (isWord n (c .head) && isWord n (c .body)) (isWord n (c .naf)) (a .0) in
     let d = both-true (isWord n (c .head)) (isWord n (c .body)) (b .0) in
-    record { head = ltb-true _ _ (d .0); body = ltb-true _ _ (d .1); naf = ltb-true _ _ (b .1) }
+    record { heads = ltb-true _ _ (d .0); bodies = ltb-true _ _ (d .1); nafs = ltb-true _ _ (b .1) }
 
 -- the clauses of a valid table are over its atoms
 pub valid-below : (p : Program) → valid p ≡ true → Each (Below (2 * p .«atom_count»)) (clauses p)

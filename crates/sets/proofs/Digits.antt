@@ -2,10 +2,10 @@
 use mathlib.Core.Path.{_≡_, refl, sym, ap, ap₂, _∙_, subst, fun-ext}
 use mathlib.Core.Logic.{_↔_, _⊎_, inl, inr, ⊎-elim}
 use mathlib.Core.Bool.{Bool, true, false, cond, not, _&&_, _||_}
-use Prim.Native.Nat.{ℕ, zero, suc, _+_, _*_, _/_, _%_, _^_, _≤_, _<_, min, max}
+use Prim.Native.Nat.{ℕ, zero, suc, _+_, _-_, _*_, _/_, _%_, _^_, _≤_, _<_, min, max}
 use native.Mathlib.Nat.{eq-zero-or-pos, pow-suc, div-one}
 use native.Mathlib.Numerals.{one-add}
-use lib.Pow.{shr-shr}
+use lib.Pow.{shr-shr, field, mod-mod-pow}
 use native.Mathlib.Omega.{arith}
 use lib.Dec.{T, eqb, eqb→eq, T-not, not-T}
 use lib.Bits.{bitAnd, bitOr, and-step, or-step, and-comm, and-le-r}
@@ -175,6 +175,39 @@ digit-div zero w = ap (λ x. x % 2) (sym (div-one w))
 digit-div (suc k) w =
     let e : w / 2 / 2 ^ k ≡ w / 2 ^ suc k = shr-shr w 1 k ∙ ap (λ x. w / 2 ^ x) (one-add k) in
     digit-div k (w / 2) ∙ ap (λ x. x % 2) e
+
+-- ---- the bits of a word and of its parts
+pub bit-ext : (a b : ℕ) → ((i : ℕ) → bit a i ≡ bit b i) → a ≡ b
+bit-ext a b h = bits-ext a b (λ i t. subst T (h i) t) (λ i t. subst T (sym (h i)) t)
+
+pub inside→⊑ : (a b : ℕ) → T (inside a b) → bit a ⊑ bit b
+inside→⊑ a b t = inside-bits a b .0 (eqb→eq (bitAnd a b) a t)
+
+pub ⊑→inside : (a b : ℕ) → bit a ⊑ bit b → T (inside a b)
+⊑→inside a b s = true-T _ (eq-eqb (bitAnd a b) a (inside-bits a b .1 s))
+
+pub bit-div : (w i : ℕ) → bit w i ≡ eqb (w / 2 ^ i % 2) 1
+unfolding bit
+bit-div w i = ap (λ x. eqb x 1) (digit-div i w)
+
+pub bit-first : (w : ℕ) → bit w zero ≡ eqb (w % 2) 1
+unfolding bit digit
+bit-first w = refl
+
+pub bit-suc : (w i : ℕ) → bit w (suc i) ≡ bit (w / 2) i
+unfolding bit digit
+bit-suc w i = refl
+
+pub bit-shr : (w m i : ℕ) → bit (w / 2 ^ m) i ≡ bit w (m + i)
+bit-shr w m i = bit-div (w / 2 ^ m) i ∙ ap (λ x. eqb (x % 2) 1) (shr-shr w m i) ∙ sym (bit-div w (m + i))
+
+low-by : (w j i : ℕ) → bit (w % 2 ^ (j + 1 + i)) i ≡ bit w i
+low-by w j i =
+    bit-div (w % 2 ^ (j + 1 + i)) i ∙ ap (λ x. eqb (x % 2) 1) (field w (j + 1) i) ∙ ap (λ x. eqb x 1) (mod-mod-pow (w / 2 ^ i) j 1)
+    ∙ sym (bit-div w i)
+
+pub bit-low : (w m i : ℕ) → i < m → bit (w % 2 ^ m) i ≡ bit w i
+bit-low w m i h = let e : m - suc i + 1 + i ≡ m = omega arith in ap (λ k. bit (w % 2 ^ k) i) (sym e) ∙ low-by w (m - suc i) i
 
 -- ---- a finite set of numbers is a word
 -- the word of a set's members below k

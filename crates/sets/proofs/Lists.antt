@@ -10,7 +10,7 @@ use native.Mathlib.Omega.{arith}
 use lib.Dec.{T}
 use lib.ListN.{length, getD}
 use Rattle.sets.specs.Lists.{_∈_, Each, Some, every, some, sift, upFrom, onward, tabulate, below}
-use Rattle.sets.proofs.Tests.{dec, clash, both-true, both-false, and-is-true, T?}
+use Rattle.sets.proofs.Tests.{clash, both-true, both-false, and-is-true, T?, T-true, true-T}
 
 -- ---- members
 module _ {A : Type 0} where
@@ -137,6 +137,13 @@ module _ {A : Type 0} (p : A → Bool) where
       go true e (inl q) r = (inl q, ap p q ∙ e)
       go true e (inr k) r = (inr (r k .0), r k .1)
       go false e k r = (inr (r k .0), r k .1)
+
+  -- the same, where the test is read as a type
+  pub in-sift : (l : List A) (x : A) → x ∈ l → T (p x) → x ∈ sift p l
+  in-sift l x m t = sift-in l x m (T-true (p x) t)
+
+  pub out-sift : (l : List A) (x : A) → x ∈ sift p l → (x ∈ l) × T (p x)
+  out-sift l x m = let r = sift-out l x m in (r .0, true-T (p x) (r .1))
 
 -- ---- f i, f (i + 1), ..
 module _ {A : Type 0} (f : ℕ → A) where

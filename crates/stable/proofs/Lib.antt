@@ -1,8 +1,8 @@
 -- What is proved of the definitions.
+pub mod BooksHold
 pub mod FourValues
 pub mod Readings
 pub mod Decides
 pub mod Checking
 pub mod Answers
 pub mod Rules
-pub mod BooksHold
