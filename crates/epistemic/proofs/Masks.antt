@@ -21,7 +21,7 @@ use Rattle.sets.specs.Lists.{sift, below, every, _∈_, Each}
 use Rattle.sets.specs.Words.{Set, _⊑_, bit, inside}
 use Rattle.stable.proofs.Checking.{model-cons}
 use Rattle.stable.proofs.Decides.{StableWord}
-use Rattle.stable.specs.Interpretations.{reduct as stableReduct, isModel, violates}
+use Rattle.semantics.specs.Interpretations.{reduct as stableReduct, isModel, violates}
 use borrow.Author.Tests.{not-true}
 
 -- the bits of w below m, lowest first

@@ -21,8 +21,8 @@ use Rattle.program.proofs.Validity.{valid-clauses}
 use Rattle.program.specs.Refusals.{lowest}
 use Rattle.stable.specs.declared.Checked.{Checked}
 use Rattle.stable.specs.declared.Checked.the-variants.{Refused, Violated, Smaller, Stable}
-use Rattle.stable.specs.Definitions.{PStable}
-use Rattle.stable.specs.Interpretations.{rulesOf, satisfies, reduct, isModel, smaller, leastSmaller, isStable}
+use Rattle.semantics.specs.Definitions.{PStable}
+use Rattle.semantics.specs.Interpretations.{rulesOf, satisfies, reduct, isModel, smaller, leastSmaller, isStable}
 use Rattle.stable.specs.Check.{firstViolated, verdict, refusal, answerOf, refusedBy, FirstViolated, LeastSmaller, Says, Checks}
 use Rattle.stable.proofs.Readings.{Satisfies-satisfies, satisfies-Satisfies, isModel-Model, Model-isModel}
 use Rattle.stable.proofs.Decides.{stable-PStable, PStable-stable}

@@ -16,7 +16,7 @@ use Rattle.program.specs.Clauses.{Clause, clauseOf, clauseAt, rowsOf, noClause}
 use Rattle.program.proofs.Clauses.{length-rows, row-at}
 use Rattle.stable.specs.declared.Checked.{Checked}
 use Rattle.stable.specs.declared.Checked.the-variants.{Violated, Smaller, Stable}
-use Rattle.stable.specs.Interpretations.{satisfies, reduct, isModel, violates, violatedAt, smaller, leastSmaller}
+use Rattle.semantics.specs.Interpretations.{satisfies, reduct, isModel, violates, violatedAt, smaller, leastSmaller}
 use Rattle.stable.specs.Check.{firstViolated, verdict}
 
 -- ---- a clause more

@@ -17,8 +17,8 @@ use Rattle.sets.proofs.Rising.{sift-rising, below-rising}
 use Rattle.sets.proofs.Least.{least-le, least-hit, least-miss}
 use Rattle.sets.proofs.Digits.{inside-bits, inside-le, bits-ext, bit-small, set-word, below-pow}
 use Rattle.program.specs.Clauses.{Clause}
-use Rattle.stable.specs.Definitions.{Model, Reduct, PStable}
-use Rattle.stable.specs.Interpretations.{rulesOf, reduct, isModel, smaller, leastSmaller, isStable, models}
+use Rattle.semantics.specs.Definitions.{Model, Reduct, PStable}
+use Rattle.semantics.specs.Interpretations.{rulesOf, reduct, isModel, smaller, leastSmaller, isStable, models}
 use Rattle.stable.proofs.Readings.{isModel-Model, Model-isModel}
 
 -- p-stable, read over words

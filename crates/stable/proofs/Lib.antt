@@ -1,5 +1,4 @@
 -- What is proved of the definitions.
-pub mod BooksHold
 pub mod FourValues
 pub mod Readings
 pub mod Decides

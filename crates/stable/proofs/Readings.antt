@@ -13,8 +13,8 @@ use Rattle.sets.proofs.Tests.{dec, clash}
 use Rattle.sets.proofs.Lists.{in-map, map-in, every-each, each-every, sift-in, sift-out}
 use Rattle.sets.proofs.Digits.{inside-bits, meets-bits, bit-zero}
 use Rattle.program.specs.Clauses.{Clause, clauseOf}
-use Rattle.stable.specs.Definitions.{Rule, Head, Body, Satisfies, Model, Reduct, positive, _⊨_, _⊨not_}
-use Rattle.stable.specs.Interpretations.{ruleOf, rulesOf, satisfies, reduct, isModel}
+use Rattle.semantics.specs.Definitions.{Rule, Head, Body, Satisfies, Model, Reduct, positive, _⊨_, _⊨not_}
+use Rattle.semantics.specs.Interpretations.{ruleOf, rulesOf, satisfies, reduct, isModel}
 use Rattle.stable.proofs.FourValues.{holds-member, not-absent}
 
 -- the word lies in w: each of its literals holds; it misses w: "not" of each holds; it meets w: some literal holds

@@ -14,8 +14,8 @@ use Rattle.program.specs.Valid.{valid}
 use Rattle.program.specs.Refusals.{lowest}
 use Rattle.stable.specs.declared.Checked.{Checked}
 use Rattle.stable.specs.declared.Checked.the-variants.{Refused, Violated, Smaller, Stable}
-use Rattle.stable.specs.Definitions.{Satisfies, Model, Reduct, PStable}
-use Rattle.stable.specs.Interpretations.{ruleOf, rulesOf, satisfies, leastSmaller}
+use Rattle.semantics.specs.Definitions.{Satisfies, Model, Reduct, PStable}
+use Rattle.semantics.specs.Interpretations.{ruleOf, rulesOf, satisfies, leastSmaller}
 
 -- "the lowest number of a violated clause (from 0, as it stands in the book)"; the number of clauses where none is violated
 unfoldable pub firstViolated : List Clause → ℕ → ℕ

@@ -1,5 +1,2 @@
--- Read in this order: the paper's definitions over sets of literals, the same over words, the check of one candidate, the sample books.
-pub mod Definitions
-pub mod Interpretations
+-- The answer of the check; what is meant by p-stable stands in the crate semantics.
 pub mod Check
-pub mod Books

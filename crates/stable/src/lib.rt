@@ -4,7 +4,7 @@ ghost use Prim.Native.Nat.{_≤_, _<_};
 ghost use Rattle.sets.specs.Words.{Inside, Next};
 ghost use Rattle.sets.specs.Least.{least};
 ghost use Rattle.program.specs.Clauses.{clauseOf, rowsOf};
-ghost use Rattle.stable.specs.Interpretations.{violates, violatedAt, leastSmaller};
+ghost use Rattle.semantics.specs.Interpretations.{violates, violatedAt, leastSmaller};
 ghost use Rattle.stable.specs.Check.{verdict, Checks};
 use program::Program;
 

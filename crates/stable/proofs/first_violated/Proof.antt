@@ -2,7 +2,7 @@
 use Prim.Native.Nat.{_-_}
 use Rattle.sets.proofs.Least.{Searched}
 use Rattle.program.specs.Clauses.{rowsOf}
-use Rattle.stable.specs.Interpretations.{violatedAt}
+use Rattle.semantics.specs.Interpretations.{violatedAt}
 use Rattle.stable.proofs.Rules.{rules}
 use Rattle.stable.proofs.first_violated.Statement.{statement}
 use Rattle.stable.proofs.first_violated.Tie as tie

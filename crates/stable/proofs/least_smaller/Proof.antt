@@ -3,7 +3,7 @@ use Prim.Native.Nat.{_-_}
 use Rattle.sets.specs.Words.{Inside}
 use Rattle.sets.proofs.Least.{Searched}
 use Rattle.program.specs.Clauses.{rowsOf}
-use Rattle.stable.specs.Interpretations.{reduct, smaller}
+use Rattle.semantics.specs.Interpretations.{reduct, smaller}
 use Rattle.stable.proofs.Rules.{rules}
 use Rattle.stable.proofs.least_smaller.Statement.{statement}
 use Rattle.stable.proofs.least_smaller.Tie as tie

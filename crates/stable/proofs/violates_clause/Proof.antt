@@ -1,5 +1,5 @@
 -- `stable::violates_clause` meets its contract. Assumes nothing.
-use Rattle.stable.specs.Interpretations.{violates}
+use Rattle.semantics.specs.Interpretations.{violates}
 use Rattle.stable.proofs.Rules.{rules}
 use Rattle.stable.proofs.violates_clause.Statement.{statement}
 use Rattle.stable.proofs.violates_clause.Tie as tie

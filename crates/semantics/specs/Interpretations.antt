@@ -8,7 +8,7 @@ use Rattle.sets.specs.Lists.{every, sift, below}
 use Rattle.sets.specs.Words.{bit, inside, apart, meets}
 use Rattle.sets.specs.Least.{least}
 use Rattle.program.specs.Clauses.{Clause, clauseOf, noClause}
-use Rattle.stable.specs.Definitions.{Rule}
+use Rattle.semantics.specs.Definitions.{Rule}
 
 -- a clause of words as sets of literals; a program as such
 abbrev pub ruleOf : Clause → Rule

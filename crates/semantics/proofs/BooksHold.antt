@@ -2,8 +2,8 @@
 use mathlib.Core.Path.{_≡_, refl}
 use mathlib.Core.List.{map}
 use Rattle.program.specs.Values.{wordOf, clauseOfValues}
-use Rattle.stable.specs.Interpretations.{models}
-use Rattle.stable.specs.Books.{books, clausesOf, modelsOf}
+use Rattle.semantics.specs.Interpretations.{models}
+use Rattle.semantics.specs.Books.{books, clausesOf, modelsOf}
 
 -- all eleven at once, by computation
 pub books-hold : map (λ b. models (b .names) (clausesOf b)) books ≡ map modelsOf books

@@ -1,0 +1,2 @@
+-- The sample books come out as document 01 has them.
+pub mod BooksHold
