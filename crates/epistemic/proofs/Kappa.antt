@@ -50,7 +50,7 @@ to-reduct I J (d ∷ P) h r m = go (misses I (d .naf)) refl m (to-reduct I J P (
     go true e (inr q) rest = rest q
     go false e q rest = rest q
 
--- ---- the transform's models, taggedOf by taggedOf
+-- ---- the transform's models, clause by clause
 
 pub record KM (M : Set Atom) (c : Tagged) : Type 0 where
   pub plain : T (noNaf (c .naf)) → All (lits M) (c .body) → Any (lits M) (c .head)

@@ -9,7 +9,7 @@ use lib.Bits.{bitAnd}
 use Rattle.epistemic.proofs.Kappa.{RModel, of-reduct, to-reduct}
 use Rattle.epistemic.proofs.Naming.{Small}
 use Rattle.epistemic.proofs.WordMain.{WSame, program, Answer, theorem-words}
-use Rattle.epistemic.proofs.Words.{mask, mask-in, mask-out, meets→Any, Any→meets}
+use Rattle.epistemic.proofs.Words.{mask-in, mask-out, meets→Any, Any→meets}
 use Rattle.epistemic.specs.Positive.{All, Any, None}
 use Rattle.epistemic.specs.Transform.{Tagged, Stable}
 use Rattle.program.proofs.Validity.{Below}
@@ -18,7 +18,7 @@ use Rattle.sets.proofs.Digits.{inside-bits, bits-ext, set-word, bit-ext, inside
 use Rattle.sets.proofs.Lists.{below-in, in-below, in-sift, out-sift}
 use Rattle.sets.proofs.Tests.{both-true, and-is-true, T?, T-ext}
 use Rattle.sets.specs.Lists.{sift, below, every, _∈_, Each}
-use Rattle.sets.specs.Words.{Set, _⊑_, bit, inside}
+use Rattle.sets.specs.Words.{mask, Set, _⊑_, bit, inside}
 use Rattle.stable.proofs.Checking.{model-cons}
 use Rattle.stable.proofs.Decides.{StableWord}
 use Rattle.semantics.specs.Interpretations.{reduct as stableReduct, isModel, violates}
@@ -44,7 +44,7 @@ unfoldable pub taggedOf : ℕ → ℕ → Clause → Tagged
 unfolding unmask
 taggedOf m t c = record { tag = t; head = unmask m (c .head); body = unmask m (c .body); naf = unmask m (c .naf) }
 
--- the taggedFrom are tagged by their places
+-- the clauses are tagged by their places
 unfoldable pub taggedFrom : ℕ → ℕ → List Clause → List Tagged
 unfolding taggedOf
 taggedFrom m t [] = []

@@ -51,7 +51,7 @@ module _ {A : Type 0} (d : Discrete A) where
 
 -- ---- names
 
--- the stand-ins of the taggedFrom that have a naf
+-- the stand-ins of the clauses that have a naf
 unfoldable pub stands : List Tagged → List Atom
 stands P = flatMap (λ (c : Tagged). cond (noNaf (c .naf)) [] (map (stand c) (c .head))) P
 

@@ -54,7 +54,7 @@ module _ (H : Set ℕ → Type 0) (dec : (k : Set ℕ) → Dec (H k)) (mono : (k
 
 -- ---- the model of the transform over a p-stable I
 
--- every taggedOf of P that I fires and blocks has one of its naf literals in k
+-- every clause of P that I fires and blocks has one of its naf literals in k
 abbrev Hit : List Tagged → Set ℕ → Set ℕ → Type 0
 Hit P I k = Each (λ (c : Tagged). All I (c .body) → Any I (c .naf) → Any k (c .naf)) P
 

@@ -17,14 +17,14 @@ use Rattle.epistemic.proofs.Naming.{stands, name, vocabulary, Small, go
 use Rattle.epistemic.proofs.Rename.{rename, pull, image, pull-in, pull-V, pull-out, image-in, image-at, minimal-pull, minimal-image}
 use Rattle.epistemic.proofs.Shrinking.{theorem-kappa}
 use Rattle.epistemic.proofs.Stages.{stages-end, fixpoint-minimal, set-eq, holds→All, All→holds}
-use Rattle.epistemic.proofs.Words.{inside-mask, mask, meets→Any, Any→meets, wstage, in-wstage, stage-word}
+use Rattle.epistemic.proofs.Words.{inside-mask, meets→Any, Any→meets, wstage, in-wstage, stage-word}
 use Rattle.epistemic.specs.Positive.{Rule, Sat, Model, Minimal, stage, Same, MinimalIn}
 use Rattle.epistemic.specs.Transform.{Tagged, Stable, Atom, lit, know, kappa, Canonical, lits}
 use Rattle.sets.proofs.Digits.{bit-small, bit-shr, bit-low, bit-ext, inside→⊑, ⊑→inside}
 use Rattle.sets.proofs.Lists.{map-in, below-in, length-below}
 use Rattle.sets.proofs.Tests.{T-and, T-and-l, T-and-r, T-ext}
 use Rattle.sets.specs.Lists.{_∈_, Each, below}
-use Rattle.sets.specs.Words.{Set, _⊑_, bit, inside}
+use Rattle.sets.specs.Words.{mask, Set, _⊑_, bit, inside}
 
 -- ---- a word is a model: the test that code runs
 

@@ -14,13 +14,8 @@ use Rattle.sets.proofs.Digits.{inside→⊑, ⊑→inside, bit-and, bit-or, bit
 use Rattle.sets.proofs.Lists.{in-flatMap, flatMap-in, in-map, map-in}
 use Rattle.sets.proofs.Tests.{T?, T-and, T-and-l, T-and-r, T-or, T-or-l, T-or-r, T-ext}
 use Rattle.sets.specs.Lists.{_∈_, Some}
-use Rattle.sets.specs.Words.{bit, inside, Set}
+use Rattle.sets.specs.Words.{mask, put, bit, inside, Set}
 use mathlib.Core.List.{flatMap}
-
--- the word of a list of positions
-unfoldable pub mask : List ℕ → ℕ
-mask [] = 0
-mask (x ∷ l) = bitOr (2 ^ x) (mask l)
 
 pub mask-out : (l : List ℕ) (i : ℕ) → T (bit (mask l) i) → i ∈ l
 unfolding mask
@@ -39,9 +34,6 @@ inside-mask w l = T-ext (inside (mask l) w) (holds (bit w) l)
     (λ t. ⊑→inside (mask l) w (λ i u. holds→All (bit w) l t i (mask-out l i u)))
 
 -- ---- the stages on words
-
-abbrev pub put : ℕ → ℕ → ℕ
-put h w = bitOr w (2 ^ h)
 
 unfoldable pub wchoices : ℕ → List (Rule ℕ) → List ℕ
 wchoices w [] = w ∷ []

@@ -95,6 +95,9 @@ module _ (p : ℕ → Bool) where
       (λ g. ⊎-elim (λ (l : i < least p n). clash (p i) t (least-miss n i l)) (λ k. omega arith) (lt-or-ge i (least p n)))
       (lt-or-ge (least p n) i)
 
+  pub least-late : (n i : ℕ) → i ≤ n → ((j : ℕ) → j < i → p j ≡ false) → i ≤ least p n
+  least-late n i h f = ⊎-elim (λ (l : least p n < i). clash (p (least p n)) (least-hit n (omega arith)) (f (least p n) l)) (λ g. g) (lt-or-ge (least p n) i)
+
   pub least-none : (n : ℕ) → ((j : ℕ) → j < n → p j ≡ false) → least p n ≡ n
   least-none n f = ⊎-elim (λ (l : least p n < n). clash (p (least p n)) (least-hit n l) (f (least p n) l)) (λ g. omega (arith, least-le n)) (lt-or-ge (least p n) n)
 

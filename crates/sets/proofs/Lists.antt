@@ -106,6 +106,21 @@ module _ {A : Type 0} (p : A → Bool) where
   none-each (y ∷ l) h x (inl e) = ap p e ∙ both-false (p y) (some p l) h .0
   none-each (y ∷ l) h x (inr m) = none-each l (both-false (p y) (some p l) h .1) x m
 
+  pub in-some : (l : List A) (x : A) → x ∈ l → p x ≡ true → some p l ≡ true
+  unfolding some
+  in-some [] x m t = absurd m
+  in-some (y ∷ l) x m t = go (p y) refl m (λ k. in-some l x k t)
+    where
+      go : (b : Bool) → p y ≡ b → (x ≡ y) ⊎ (x ∈ l) → (x ∈ l → some p l ≡ true) → b || some p l ≡ true
+      go true e k r = refl
+      go false e (inl q) r = clash (p x) t (ap p q ∙ e)
+      go false e (inr k) r = r k
+
+  pub some-none : (l : List A) → Each (λ x. p x ≡ false) l → some p l ≡ false
+  unfolding some
+  some-none [] f = refl
+  some-none (y ∷ l) f = rw (f y (inl refl)) (some-none l (λ x m. f x (inr m)))
+
   -- every member passes where none fails
   pub every-some : (l : List A) → every p l ≡ not (some (λ x. not (p x)) l)
   unfolding every some

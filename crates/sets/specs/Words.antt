@@ -1,9 +1,10 @@
 -- Words as finite sets of numbers. Assumes nothing.
 use mathlib.Core.Path.{_≡_}
 use mathlib.Core.Bool.{Bool, not}
-use Prim.Native.Nat.{ℕ, zero, suc, _/_, _%_, _<_}
+use mathlib.Core.List.{List, [], _∷_}
+use Prim.Native.Nat.{ℕ, zero, suc, _/_, _%_, _^_, _<_}
 use lib.Dec.{T, eqb}
-use lib.Bits.{bitAnd}
+use lib.Bits.{bitAnd, bitOr}
 
 -- a set, by its membership test
 abbrev pub Set : Type 0 → Type 0
@@ -22,6 +23,14 @@ digit (suc i) w = digit i (w / 2)
 unfoldable pub bit : ℕ → Set ℕ
 unfolding digit
 bit w i = eqb (digit i w) 1
+
+-- w with the member h; the word of a list of numbers
+abbrev pub put : ℕ → ℕ → ℕ
+put h w = bitOr w (2 ^ h)
+
+unfoldable pub mask : List ℕ → ℕ
+mask [] = 0
+mask (x ∷ l) = bitOr (2 ^ x) (mask l)
 
 -- every bit of a is a bit of b; no bit of a is one of b
 abbrev pub Inside : ℕ → ℕ → Type 0

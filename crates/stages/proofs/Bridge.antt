@@ -1,0 +1,156 @@
+-- The stages formed here have the words that the theory's stages have. Assumes nothing.
+use Prim.Native.Nat.{ℕ, zero, suc, _^_, _<_}
+use mathlib.Core.Bool.{Bool, true, false, cond, _||_}
+use mathlib.Core.List.{List, [], _∷_, map, flatMap}
+use mathlib.Core.Logic.{inl, ⊎-elim}
+use mathlib.Core.Path.{_≡_, refl, sym, ap, ap₂, _∙_, subst}
+use native.Mathlib.Decide.{ℕ-discrete}
+use native.Mathlib.Nat.{pow-suc}
+use native.Mathlib.Omega.{arith}
+use Rattle.epistemic.proofs.Masks.{unmask, mask-unmask}
+use Rattle.epistemic.proofs.Stages.{stages-end}
+use Rattle.epistemic.proofs.Words.{wchoices, wstage, in-wstage, map-flatMap, map-map, map-cond}
+use Rattle.epistemic.specs.Positive.{Rule, Same}
+use Rattle.lists.specs.Bytes.{same}
+use Rattle.sets.proofs.Digits.{bit-or, bit-ext}
+use Rattle.sets.proofs.Lists.{in-flatMap, flatMap-in, map-in, below-in, length-below}
+use Rattle.sets.proofs.Rising.{rising-ext}
+use Rattle.sets.specs.Lists.{_∈_, below, Rising}
+use Rattle.sets.specs.Words.{bit, inside, put, mask}
+use Rattle.stages.proofs.Literals.{lit-out}
+use Rattle.stages.proofs.RisingSets.{in-addAll, addAll-in, addAll-rising}
+use Rattle.stages.specs.Literals.{literals}
+use Rattle.stages.specs.Operator.{WordRule, choices, next, stage}
+
+-- a clause as two words says what a rule of the theory says
+pub record Like (c : WordRule) (r : Rule ℕ) : Type 0 where
+  pub heads-to : (x : ℕ) → x ∈ literals (c .head) → x ∈ r .head
+  pub heads-of : (x : ℕ) → x ∈ r .head → x ∈ literals (c .head)
+  pub body : c .body ≡ mask (r .body)
+
+abbrev pub Alike : List WordRule → List (Rule ℕ) → Type 0
+Alike [] [] = Unit {0}
+Alike [] (r ∷ R) = ⊥
+Alike (c ∷ Q) [] = ⊥
+Alike (c ∷ Q) (r ∷ R) = Like c r × Alike Q R
+
+-- ---- the theory's choices, put into j
+
+unfoldable wfrom : ℕ → List (Rule ℕ) → ℕ → List ℕ
+wfrom i [] j = j ∷ []
+wfrom i (r ∷ R) j = cond (inside (mask (r .body)) i) (flatMap (λ h. map (put h) (wfrom i R j)) (r .head)) (wfrom i R j)
+
+wfrom-is : (i : ℕ) (R : List (Rule ℕ)) → wfrom i R i ≡ wchoices i R
+unfolding wfrom wchoices
+wfrom-is i [] = refl
+wfrom-is i (r ∷ R) = ap (λ (l : List ℕ). cond (inside (mask (r .body)) i) (flatMap (λ h. map (put h) l) (r .head)) l) (wfrom-is i R)
+
+put-put : (g h w : ℕ) → put h (put g w) ≡ put g (put h w)
+put-put g h w = bit-ext (put h (put g w)) (put g (put h w)) (λ k.
+    bit-or (put g w) (2 ^ h) k ∙ ap (λ b. b || bit (2 ^ h) k) (bit-or w (2 ^ g) k) ∙ swap (bit w k) (bit (2 ^ g) k) (bit (2 ^ h) k)
+    ∙ ap (λ b. b || bit (2 ^ g) k) (sym (bit-or w (2 ^ h) k)) ∙ sym (bit-or (put h w) (2 ^ g) k))
+  where
+    swap : (a b c : Bool) → ((a || b) || c) ≡ ((a || c) || b)
+    swap true b c = refl
+    swap false true true = refl
+    swap false true false = refl
+    swap false false true = refl
+    swap false false false = refl
+
+put-wfrom : (i h : ℕ) (R : List (Rule ℕ)) (j : ℕ) → map (put h) (wfrom i R j) ≡ wfrom i R (put h j)
+unfolding wfrom
+put-wfrom i h [] j = refl
+put-wfrom i h (r ∷ R) j =
+    map-cond (put h) (inside (mask (r .body)) i) (flatMap (λ g. map (put g) (wfrom i R j)) (r .head)) (wfrom i R j)
+    ∙ ap₂ (λ (x y : List ℕ). cond (inside (mask (r .body)) i) x y)
+    (map-flatMap (put h) (λ g. map (put g) (wfrom i R j)) (λ g. map (put g) (wfrom i R (put h j)))
+    (λ g. map-map (put h) (put g) (put g) (put h) (λ w. put-put g h w) (wfrom i R j) ∙ ap (map (put g)) (put-wfrom i h R j)) (r .head))
+    (put-wfrom i h R j)
+
+-- ---- the same words
+
+choices-to : (i : ℕ) (Q : List WordRule) (R : List (Rule ℕ)) → Alike Q R → (j v : ℕ) → v ∈ choices i Q j → v ∈ wfrom i R j
+unfolding choices wfrom
+choices-to i [] [] a j v m = m
+choices-to i [] (r ∷ R) a j v m = absurd a
+choices-to i (c ∷ Q) [] a j v m = absurd a
+choices-to i (c ∷ Q) (r ∷ R) a j v m = rw (← a .0 .body) (go (inside (c .body) i) m (choices-to i Q R (a .1)))
+  where
+    go : (b : Bool) → v ∈ cond b (flatMap (λ h. choices i Q (put h j)) (literals (c .head))) (choices i Q j)
+        → ((j v : ℕ) → v ∈ choices i Q j → v ∈ wfrom i R j) → v ∈ cond b (flatMap (λ h. map (put h) (wfrom i R j)) (r .head)) (wfrom i R j)
+    go true m ih = let s = flatMap-in (λ h. choices i Q (put h j)) v (literals (c .head)) m in
+        in-flatMap (λ h. map (put h) (wfrom i R j)) (s .0) v (r .head) (a .0 .heads-to (s .0) (s .1)) (subst (λ (l : List ℕ). v ∈ l) (sym (put-wfrom i (s .0) R j)) (ih (put (s .0) j) v (s .2)))
+    go false m ih = ih j v m
+
+choices-of : (i : ℕ) (Q : List WordRule) (R : List (Rule ℕ)) → Alike Q R → (j v : ℕ) → v ∈ wfrom i R j → v ∈ choices i Q j
+unfolding choices wfrom
+choices-of i [] [] a j v m = m
+choices-of i [] (r ∷ R) a j v m = absurd a
+choices-of i (c ∷ Q) [] a j v m = absurd a
+choices-of i (c ∷ Q) (r ∷ R) a j v m = go (inside (c .body) i) (rw (← a .0 .body) at m) (choices-of i Q R (a .1))
+  where
+    go : (b : Bool) → v ∈ cond b (flatMap (λ h. map (put h) (wfrom i R j)) (r .head)) (wfrom i R j)
+        → ((j v : ℕ) → v ∈ wfrom i R j → v ∈ choices i Q j) → v ∈ cond b (flatMap (λ h. choices i Q (put h j)) (literals (c .head))) (choices i Q j)
+    go true m ih = let s = flatMap-in (λ h. map (put h) (wfrom i R j)) v (r .head) m in
+        in-flatMap (λ h. choices i Q (put h j)) (s .0) v (literals (c .head)) (a .0 .heads-of (s .0) (s .1)) (ih (put (s .0) j) v (subst (λ (l : List ℕ). v ∈ l) (put-wfrom i (s .0) R j) (s .2)))
+    go false m ih = ih j v m
+
+pub in-next : (Q : List WordRule) (s : List ℕ) (v : ℕ) → v ∈ next Q s → v ∈ flatMap (λ i. choices i Q i) s
+unfolding next
+in-next Q s v m = ⊎-elim (λ i. i) (λ b. absurd b) (in-addAll v (flatMap (λ i. choices i Q i) s) [] m)
+
+pub next-in : (Q : List WordRule) (s : List ℕ) (v : ℕ) → v ∈ flatMap (λ i. choices i Q i) s → v ∈ next Q s
+unfolding next
+next-in Q s v m = addAll-in v (flatMap (λ i. choices i Q i) s) [] (inl m)
+
+pub stage-rising : (Q : List WordRule) (k : ℕ) → Rising (stage Q k)
+unfolding stage next Rising
+stage-rising Q zero = (λ y m. absurd m, tt)
+stage-rising Q (suc k) = addAll-rising (flatMap (λ i. choices i Q i) (stage Q k)) [] tt
+
+module _ (Q : List WordRule) (R : List (Rule ℕ)) (a : Alike Q R) where
+  pub stage-to : (k v : ℕ) → v ∈ stage Q k → v ∈ wstage R k
+  unfolding stage wstage
+  stage-to zero v m = m
+  stage-to (suc k) v m =
+      let s = flatMap-in (λ i. choices i Q i) v (stage Q k) (in-next Q (stage Q k) v m) in
+      in-flatMap (λ w. wchoices w R) (s .0) v (wstage R k) (stage-to k (s .0) (s .1))
+      (subst (λ (l : List ℕ). v ∈ l) (wfrom-is (s .0) R) (choices-to (s .0) Q R a (s .0) v (s .2)))
+
+  pub stage-of : (k v : ℕ) → v ∈ wstage R k → v ∈ stage Q k
+  unfolding stage wstage
+  stage-of zero v m = m
+  stage-of (suc k) v m =
+      let s = flatMap-in (λ w. wchoices w R) v (wstage R k) m in
+      next-in Q (stage Q k) v (in-flatMap (λ i. choices i Q i) (s .0) v (stage Q k) (stage-of k (s .0) (s .1))
+      (choices-of (s .0) Q R a (s .0) v (subst (λ (l : List ℕ). v ∈ l) (sym (wfrom-is (s .0) R)) (s .2))))
+
+-- ---- from stage 65 on nothing changes, whatever the clauses
+
+below-pow : (n : ℕ) → n < 2 ^ n
+below-pow zero = omega arith
+below-pow (suc n) = let h = below-pow n in let e = pow-suc 2 n in omega arith
+
+unfoldable ruleOf : WordRule → Rule ℕ
+ruleOf c = record { head = literals (c .head); body = unmask (c .body) (c .body) }
+
+alike-rules : (Q : List WordRule) → Alike Q (map ruleOf Q)
+unfolding ruleOf
+alike-rules [] = tt
+alike-rules (c ∷ Q) = (record { heads-to = λ x m. m; heads-of = λ x m. m; body = sym (mask-unmask (c .body) (c .body) (below-pow (c .body))) }, alike-rules Q)
+
+heads-below : (Q : List WordRule) (r : Rule ℕ) → r ∈ map ruleOf Q → (x : ℕ) → x ∈ r .head → x ∈ below 64
+unfolding ruleOf
+heads-below Q r m x i = let s = map-in ruleOf r Q m in below-in 64 x (lit-out (s .0 .head) x (subst (λ (z : Rule ℕ). x ∈ z .head) (s .2) i) .0)
+
+pub stage-rests : (Q : List WordRule) → stage Q 65 ≡ stage Q 66
+unfolding Same
+stage-rests Q = rising-ext (stage Q 65) (stage Q 66) (stage-rising Q 65) (stage-rising Q 66)
+    (λ v m. stage-of Q R (alike-rules Q) 66 v (in-wstage R 66 v .1 (same (bit v) .0 (in-wstage R 65 v .0 (stage-to Q R (alike-rules Q) 65 v m)))))
+    (λ v m. stage-of Q R (alike-rules Q) 65 v (in-wstage R 65 v .1 (same (bit v) .1 (in-wstage R 66 v .0 (stage-to Q R (alike-rules Q) 66 v m)))))
+  where
+    R : List (Rule ℕ)
+    R = map ruleOf Q
+
+    same : Same ℕ-discrete (map ruleOf Q) 65 66
+    same = stages-end ℕ-discrete (map ruleOf Q) (below 64) (heads-below Q) 65 (omega (arith, length-below 64))

@@ -1,0 +1,187 @@
+-- What is taken of the stage that ends the run. Assumes nothing.
+use Prim.Native.Nat.{ℕ, suc, _≤_, _<_}
+use lib.Bits.{bitAnd}
+use lib.Dec.{T, eqb, eqb→eq, eqb-refl, T-not, not-T}
+use lib.ListN.{length}
+use mathlib.Core.Bool.{Bool, true, false, not, cond, _&&_, _||_}
+use mathlib.Core.List.{List, [], _∷_, map}
+use mathlib.Core.Logic.{_⊎_, inl, inr}
+use mathlib.Core.Path.{_≡_, refl, sym, ap, subst}
+use native.Mathlib.Decide.{decLt}
+use native.Mathlib.Omega.{arith}
+use Rattle.epistemic.proofs.WordMain.{WSame, WMinimal, wsat, wmodel}
+use Rattle.epistemic.proofs.Words.{mask-in, mask-out, wstage}
+use Rattle.epistemic.specs.Positive.{Rule}
+use Rattle.lists.specs.Bytes.{same}
+use Rattle.sets.proofs.Lists.{in-sift, out-sift}
+use Rattle.sets.proofs.Tests.{T-and-l, T?, T-and, T-and-r}
+use Rattle.sets.specs.Least.{least}
+use Rattle.sets.specs.Lists.{_∈_, Some, sift, some, Each}
+use Rattle.sets.specs.Words.{inside, mask}
+use Rattle.sets.proofs.Least.{least-hit, least-le}
+use Rattle.stages.proofs.Bridge.{Alike, stage-to, stage-of, stage-rests}
+use Rattle.stages.proofs.Literals.{lit-in, lit-out}
+use Rattle.stages.proofs.Run.{same-eq}
+use Rattle.stages.specs.Minimal.{violates, satisfies, properIn, leastIn, minimals}
+use Rattle.stages.specs.Operator.{WordRule, next, stage}
+use Rattle.stages.specs.Run.{finalStage, resting, ending}
+
+-- ---- laws
+
+sift-sift : (p q : ℕ → Bool) (l : List ℕ) → sift q (sift p l) ≡ sift (λ x. p x && q x) l
+unfolding sift
+sift-sift p q [] = refl
+sift-sift p q (x ∷ l) = go (p x) (sift-sift p q l)
+  where
+    go : (b : Bool) → sift q (sift p l) ≡ sift (λ x. p x && q x) l → sift q (cond b (x ∷ sift p l) (sift p l)) ≡ cond (b && q x) (x ∷ sift (λ x. p x && q x) l) (sift (λ x. p x && q x) l)
+    go true ih = ap (λ (k : List ℕ). cond (q x) (x ∷ k) k) ih
+    go false ih = ih
+
+pub any-none : (t : ℕ → Bool) → some t [] ≡ false
+unfolding some
+any-none t = refl
+
+pub any-one : (t : ℕ → Bool) (x : ℕ) (l : List ℕ) → some t (x ∷ l) ≡ (t x || some t l)
+unfolding some
+any-one t x l = refl
+
+pub sift-one : (t : ℕ → Bool) (x : ℕ) (l : List ℕ) → sift t (x ∷ l) ≡ cond (t x) (x ∷ sift t l) (sift t l)
+unfolding sift
+sift-one t x l = refl
+
+pub sift-none : (t : ℕ → Bool) → sift t [] ≡ []
+unfolding sift
+sift-none t = refl
+
+pub sift-short : (t : ℕ → Bool) (l : List ℕ) → length (sift t l) ≤ length l
+unfolding sift
+sift-short t [] = omega arith
+sift-short t (x ∷ l) = go (t x) (sift-short t l)
+  where
+    go : (b : Bool) → length (sift t l) ≤ length l → length (cond b (x ∷ sift t l) (sift t l)) ≤ suc (length l)
+    go true h = omega arith
+    go false h = omega arith
+
+-- ---- members that pass
+
+pub any-in : (t : ℕ → Bool) (x : ℕ) (l : List ℕ) → x ∈ l → T (t x) → T (some t l)
+unfolding some
+any-in t x [] i h = absurd i
+any-in t x (y ∷ l) (inl e) h = go (t y) (subst (λ z. T (t z)) e h)
+  where
+    go : (b : Bool) → T b → T (_||_ b (some t l))
+    go true u = tt
+    go false u = absurd u
+any-in t x (y ∷ l) (inr i) h = go (t y) (any-in t x l i h)
+  where
+    go : (b : Bool) → T (some t l) → T (_||_ b (some t l))
+    go true u = tt
+    go false u = u
+
+pub in-any : (t : ℕ → Bool) (l : List ℕ) → T (some t l) → Some (λ x. T (t x)) l
+unfolding some
+in-any t [] h = absurd h
+in-any t (y ∷ l) h = go (t y) refl h (in-any t l)
+  where
+    go : (b : Bool) → t y ≡ b → T (_||_ b (some t l)) → (T (some t l) → Some (λ x. T (t x)) l) → Some (λ x. T (t x)) (y ∷ l)
+    go true e u ih = (y, inl refl, subst T (sym e) tt)
+    go false e u ih = let s = ih u in (s .0, inr (s .1), s .2)
+
+pub proper-within : (w v : ℕ) → T (properIn w v) → T (inside v w)
+unfolding properIn
+proper-within w v t = T-and-l (inside v w) (not (eqb v w)) t
+
+-- a rule of the theory as two words
+abbrev pub wordRule : Rule ℕ → WordRule
+wordRule r = record { head = mask (r .head); body = mask (r .body) }
+
+pub alike-words : (R : List (Rule ℕ)) → Each (λ (r : Rule ℕ). Each (λ x. x < 64) (r .head)) R → Alike (map wordRule R) R
+alike-words [] f = tt
+alike-words (r ∷ R) f = (
+  record {
+    heads-to = λ x m. mask-out (r .head) x (lit-out (mask (r .head)) x m .1);
+    heads-of = λ x m. lit-in (mask (r .head)) x (f r (inl refl) x m) (mask-in (r .head) x m);
+    body = refl;
+  },
+  alike-words R (λ q i. f q (inr i)),
+)
+
+-- ---- the same models
+
+satisfies-model : (w : ℕ) (R : List (Rule ℕ)) → satisfies (map wordRule R) w ≡ wmodel w R
+unfolding satisfies some violates wmodel wsat
+satisfies-model w [] = refl
+satisfies-model w (r ∷ R) = go (inside (mask (r .body)) w) (eqb (bitAnd (mask (r .head)) w) 0) (satisfies-model w R)
+  where
+    go : (a b : Bool) → not (some (violates w) (map wordRule R)) ≡ wmodel w R
+        → not ((a && b) || some (violates w) (map wordRule R)) ≡ (cond a (not b) true && wmodel w R)
+    go true true ih = refl
+    go true false ih = ih
+    go false b ih = ih
+
+-- ---- the stage that ends the run is at rest
+
+pub final-rests : (Q : List WordRule) → stage Q (ending Q) ≡ stage Q (suc (ending Q))
+unfolding ending resting stage
+final-rests Q = ap (next Q) (go (decLt (least (λ k. same (stage Q k) (stage Q (suc k))) 65) 65))
+  where
+    go : Dec (least (λ k. same (stage Q k) (stage Q (suc k))) 65 < 65)
+        → stage Q (least (λ k. same (stage Q k) (stage Q (suc k))) 65) ≡ stage Q (suc (least (λ k. same (stage Q k) (stage Q (suc k))) 65))
+    go (yes h) = same-eq _ _ (subst T (sym (least-hit (λ k. same (stage Q k) (stage Q (suc k))) 65 h)) tt)
+    go (no h) = let e : 65 ≡ least (λ k. same (stage Q k) (stage Q (suc k))) 65 = omega (arith, h, least-le (λ k. same (stage Q k) (stage Q (suc k))) 65) in
+        subst (λ (n : ℕ). stage Q n ≡ stage Q (suc n)) e (stage-rests Q)
+
+-- ---- minimal members
+
+pub proper-not : (w v : ℕ) → T (inside v w) → (T (properIn w v) → ⊥) → v ≡ w
+unfolding properIn
+proper-not w v t n = go (T? (eqb v w))
+  where
+    go : T (eqb v w) ⊎ (T (eqb v w) → ⊥) → v ≡ w
+    go (inl e) = eqb→eq v w e
+    go (inr f) = absurd (n (T-and (inside v w) (not (eqb v w)) t (not-T (eqb v w) f)))
+
+pub not-proper : (w v : ℕ) → T (properIn w v) → v ≡ w → ⊥
+unfolding properIn
+not-proper w v t e = T-not (eqb v w) (T-and-r (inside v w) (not (eqb v w)) t) (subst (λ z. T (eqb v z)) e (eqb-refl v))
+
+module _ (R : List (Rule ℕ)) (small : Each (λ (r : Rule ℕ). Each (λ x. x < 64) (r .head)) R) where
+  abbrev Q : List WordRule
+  Q = map wordRule R
+
+  pub rests : WSame R (ending (map wordRule R))
+  rests w = (
+    λ i. stage-to (map wordRule R) R (alike-words R small) (suc (ending (map wordRule R))) w (subst (λ (l : List ℕ). w ∈ l) (final-rests (map wordRule R)) (stage-of (map wordRule R) R (alike-words R small) (ending (map wordRule R)) w i)),
+    λ i. stage-to (map wordRule R) R (alike-words R small) (ending (map wordRule R)) w (subst (λ (l : List ℕ). w ∈ l) (sym (final-rests (map wordRule R))) (stage-of (map wordRule R) R (alike-words R small) (suc (ending (map wordRule R))) w i)),
+  )
+
+  found : List ℕ
+  found = sift (satisfies (map wordRule R)) (finalStage (map wordRule R))
+
+  found-in : (w : ℕ) → w ∈ wstage R (ending (map wordRule R)) → T (wmodel w R) → w ∈ sift (satisfies (map wordRule R)) (finalStage (map wordRule R))
+  unfolding finalStage
+  found-in w i t = in-sift (satisfies (map wordRule R)) (stage (map wordRule R) (ending (map wordRule R))) w (stage-of (map wordRule R) R (alike-words R small) (ending (map wordRule R)) w i) (subst T (sym (satisfies-model w R)) t)
+
+  found-out : (w : ℕ) → w ∈ sift (satisfies (map wordRule R)) (finalStage (map wordRule R)) → (w ∈ wstage R (ending (map wordRule R))) × T (wmodel w R)
+  unfolding finalStage
+  found-out w i = let s = out-sift (satisfies (map wordRule R)) (stage (map wordRule R) (ending (map wordRule R))) w i in
+      (stage-to (map wordRule R) R (alike-words R small) (ending (map wordRule R)) w (s .0), subst T (satisfies-model w R) (s .1))
+
+  pub minimal-out : (w : ℕ) → w ∈ minimals (sift (satisfies (map wordRule R)) (finalStage (map wordRule R))) → WMinimal R (ending (map wordRule R)) w
+  unfolding minimals leastIn
+  minimal-out w i =
+      let s = out-sift (leastIn (sift (satisfies (map wordRule R)) (finalStage (map wordRule R)))) (sift (satisfies (map wordRule R)) (finalStage (map wordRule R))) w i in
+      let f = found-out w (s .0) in
+      record {
+        member = f .0;
+        model = f .1;
+        least = λ v k t u. proper-not w v u (λ p. T-not (some (properIn w) (sift (satisfies (map wordRule R)) (finalStage (map wordRule R)))) (s .1) (any-in (properIn w) v (sift (satisfies (map wordRule R)) (finalStage (map wordRule R))) (found-in v k t) p));
+      }
+
+  pub minimal-in : (w : ℕ) → WMinimal R (ending (map wordRule R)) w → w ∈ minimals (sift (satisfies (map wordRule R)) (finalStage (map wordRule R)))
+  unfolding minimals leastIn
+  minimal-in w h = in-sift (leastIn (sift (satisfies (map wordRule R)) (finalStage (map wordRule R)))) (sift (satisfies (map wordRule R)) (finalStage (map wordRule R))) w (found-in w (h .member) (h .model))
+      (not-T (some (properIn w) (sift (satisfies (map wordRule R)) (finalStage (map wordRule R)))) (λ t.
+      let s = in-any (properIn w) (sift (satisfies (map wordRule R)) (finalStage (map wordRule R))) t in
+      let f = found-out (s .0) (s .1) in
+      not-proper w (s .0) (s .2) (h .least (s .0) (f .0) (f .1) (proper-within w (s .0) (s .2)))))

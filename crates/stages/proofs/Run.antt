@@ -1,0 +1,99 @@
+-- The run of the stages: where it ends, and whether the working room holds them. Assumes nothing.
+use Prim.Native.Nat.{ℕ, zero, suc, _+_, _≤_, _<_}
+use borrow.Author.Tests.{lt-ltb, le-ltb}
+use lib.Dec.{T, eqb, ltb, eqb→eq}
+use lib.ListN.{length}
+use mathlib.Core.Bool.{Bool, true, false, cond, _||_}
+use mathlib.Core.List.{List, [], _∷_}
+use mathlib.Core.Path.{_≡_, refl, sym, ap, ap₂, _∙_, subst}
+use native.Mathlib.Decide.{decLe, decLt}
+use native.Mathlib.Omega.{arith}
+use Rattle.sets.specs.Lists.{some, below}
+use Rattle.sets.specs.Least.{least}
+use Rattle.sets.proofs.Tests.{T-true}
+use Rattle.sets.proofs.Lists.{below-in, in-below, in-some, some-none}
+use Rattle.sets.proofs.Least.{least-is, least-none, least-late}
+use Rattle.lists.specs.Bytes.{same}
+use Rattle.lists.proofs.Loops.{same-self, same-true}
+use Rattle.stages.proofs.Bridge.{stage-rests}
+use Rattle.stages.specs.Operator.{WordRule, next, stage}
+use Rattle.stages.specs.Run.{resting, ending, finalStage, crowded, Reached}
+
+pub same-eq : (a b : List ℕ) → T (same a b) → a ≡ b
+same-eq a b t = same-true a b (T-true (same a b) t)
+
+some-hit : (p : ℕ → Bool) (n i : ℕ) → i ≤ n → p i ≡ true → some p (below (suc n)) ≡ true
+some-hit p n i h t = in-some p (below (suc n)) i (below-in (suc n) i (omega arith)) t
+
+some-miss : (p : ℕ → Bool) (n : ℕ) → ((i : ℕ) → i ≤ n → p i ≡ false) → some p (below (suc n)) ≡ false
+some-miss p n f = some-none p (below (suc n)) (λ i m. f i (let h = in-below (suc n) i m in omega arith))
+
+-- ---- a run that has come to stage k
+pub reached-start : (Q : List WordRule) (room : ℕ) → 0 < room → Reached Q room 0
+unfolding stage
+reached-start Q room h = record { most = omega arith; early = λ i l. absurd (omega arith); roomy = λ i l. let e : i ≡ 0 = omega arith in subst (λ (n : ℕ). length (stage Q n) ≤ room) (sym e) (omega arith) }
+
+-- room for nothing has none for stage 0
+pub crowded-start : (Q : List WordRule) (room : ℕ) → room ≡ 0 → crowded Q room ≡ true
+unfolding crowded stage
+crowded-start Q room h = some-hit (λ k. ltb room (length (stage Q k))) (ending Q) 0 (omega arith) (lt-ltb room 1 (omega arith))
+
+module _ (Q : List WordRule) (room k : ℕ) (r : Reached Q room k) where
+  unmoved : same (stage Q k) (stage Q (suc k)) ≡ false → k < 65
+  unmoved f = go (decLt k 65)
+    where
+      go : Dec (k < 65) → k < 65
+      go (yes h) = h
+      go (no h) =
+          let e : k ≡ 65 = omega (arith, h, r .most) in
+          let t : same (stage Q 65) (stage Q 66) ≡ true = ap (λ (l : List ℕ). same (stage Q 65) l) (sym (stage-rests Q)) ∙ same-self (stage Q 65) in
+          let u : same (stage Q 65) (stage Q 66) ≡ false = subst (λ (n : ℕ). same (stage Q n) (stage Q (suc n)) ≡ false) e f in
+          absurd (let z : _≡_ {A = ℕ} 0 1 = cc in omega arith)
+
+  -- the stage has not come to rest: on to the next
+  pub reached-next : same (stage Q k) (stage Q (suc k)) ≡ false → length (stage Q (suc k)) ≤ room → Reached Q room (k + 1)
+  reached-next f h = record {
+    most = let u = unmoved f in omega arith;
+    early = λ i l. go i (decLt i k) l;
+    roomy = λ i l. wide i (decLe i k) l;
+  }
+    where
+      go : (i : ℕ) → Dec (i < k) → i < k + 1 → same (stage Q i) (stage Q (suc i)) ≡ false
+      go i (yes p) l = r .early i p
+      go i (no n) l = let e : k ≡ i = omega (arith, n) in subst (λ (m : ℕ). same (stage Q m) (stage Q (suc m)) ≡ false) e f
+
+      wide : (i : ℕ) → Dec (i ≤ k) → i ≤ k + 1 → length (stage Q i) ≤ room
+      wide i (yes p) l = r .roomy i p
+      wide i (no n) l = let e : suc k ≡ i = omega (arith, n) in subst (λ (m : ℕ). length (stage Q m) ≤ room) e h
+
+  pub reached-less : same (stage Q k) (stage Q (suc k)) ≡ false → k < 65
+  reached-less f = unmoved f
+
+  -- it has
+  pub rests : same (stage Q k) (stage Q (suc k)) ≡ true → resting Q ≡ k
+  unfolding resting
+  rests t = go (decLt k 65)
+    where
+      go : Dec (k < 65) → least (λ i. same (stage Q i) (stage Q (suc i))) 65 ≡ k
+      go (yes h) = least-is (λ i. same (stage Q i) (stage Q (suc i))) 65 k h t (λ j b. r .early j b)
+      go (no h) = least-none (λ i. same (stage Q i) (stage Q (suc i))) 65 (λ i b. r .early i (omega (arith, h))) ∙ omega (arith, h, r .most)
+
+  pub uncrowded : same (stage Q k) (stage Q (suc k)) ≡ true → length (stage Q (suc k)) ≤ room → crowded Q room ≡ false
+  unfolding crowded ending
+  uncrowded t h = some-miss (λ i. ltb room (length (stage Q i))) (suc (resting Q)) (λ i l. le-ltb room (length (stage Q i)) (wide i (decLe i k) (omega (arith, rests t))))
+    where
+      wide : (i : ℕ) → Dec (i ≤ k) → i ≤ suc k → length (stage Q i) ≤ room
+      wide i (yes p) l = r .roomy i p
+      wide i (no n) l = let e : suc k ≡ i = omega (arith, n) in subst (λ (m : ℕ). length (stage Q m) ≤ room) e h
+
+  pub final-is : same (stage Q k) (stage Q (suc k)) ≡ true → finalStage Q ≡ stage Q (suc k)
+  unfolding finalStage ending
+  final-is t = ap (λ (n : ℕ). stage Q (suc n)) (rests t)
+
+  -- the next stage is too large, and the run would come to it
+  pub crowds : room < length (stage Q (suc k)) → crowded Q room ≡ true
+  unfolding crowded ending resting
+  crowds h = some-hit (λ i. ltb room (length (stage Q i))) (suc (resting Q)) (suc k) (omega (arith, late)) (lt-ltb room (length (stage Q (suc k))) h)
+    where
+      late : k ≤ resting Q
+      late = least-late (λ i. same (stage Q i) (stage Q (suc i))) 65 k (r .most) (λ j b. r .early j b)

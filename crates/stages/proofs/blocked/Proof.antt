@@ -1,0 +1,16 @@
+-- `stages::blocked` meets its contract. Assumes nothing.
+use Prim.Native.Nat.{_-_}
+use Rattle.stages.specs.Operator.{bars}
+use Rattle.stages.proofs.Stepping.{Passing}
+use Rattle.stages.proofs.Stepping.{stepping}
+use Rattle.stages.proofs.blocked.Statement.{statement}
+use Rattle.stages.proofs.blocked.Tie as tie
+
+abbrev Inv-loop : tie.InvT-loop
+Inv-loop heads bodies count i k₀ k = Passing (bars i) heads bodies count k
+
+abbrev μ-loop : tie.MeasureT-loop
+μ-loop heads bodies count i k₀ k = count - k
+
+pub blocked-spec : {M : Type 1} → statement M
+blocked-spec = tie.close (tie.spec Inv-loop μ-loop (λ c. search stepping) (λ c. search stepping) (λ c. search stepping) (λ c. search stepping) (λ c. search stepping) (λ c. search stepping) (λ c. search stepping) (λ c. search stepping) (λ c. search stepping) (λ c. search stepping) (λ c. search stepping))

@@ -1,0 +1,14 @@
+-- `stages::minimal_from` meets its contract. Assumes nothing.
+use Rattle.stages.proofs.Selecting.{minimals-over, minimals-are}
+use Rattle.stages.proofs.Rules.{rules}
+use Rattle.stages.proofs.minimal_from.Statement.{statement}
+use Rattle.stages.proofs.minimal_from.Tie as tie
+
+returns : tie.Need-returns
+returns c = minimals-over _ _ _ _ _ _ (c .before .before .before .before .before .settle .ensures) (c .if1 .taken)
+
+returns-2 : tie.Need-returns-2
+returns-2 c = minimals-are _ _ _ _ _ _ _ _ _ (c .before .before .before .before .before .before .before .before .before .before .before .before .before .before .before .settle .ensures) (c .before .before .before .before .before .before .before .before .before .before .if1 .left) (c .before .before .before .before .before .before .before .keep-models .ensures) (c .before .before .keep-minimal .ensures)
+
+pub minimal-from-spec : {M : Type 1} → statement M
+minimal-from-spec = tie.close (tie.spec (λ c. search rules) (λ c. search rules) (λ c. search rules) returns (λ c. search rules) (λ c. search rules) (λ c. search rules) (λ c. search rules) returns-2)

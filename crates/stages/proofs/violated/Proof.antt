@@ -1,0 +1,16 @@
+-- `stages::violated` meets its contract. Assumes nothing.
+use Prim.Native.Nat.{_-_}
+use Rattle.stages.specs.Minimal.{violates}
+use Rattle.stages.proofs.Stepping.{Passing}
+use Rattle.stages.proofs.Selecting.{selecting}
+use Rattle.stages.proofs.violated.Statement.{statement}
+use Rattle.stages.proofs.violated.Tie as tie
+
+abbrev Inv-loop : tie.InvT-loop
+Inv-loop heads bodies count w k₀ k = Passing (violates w) heads bodies count k
+
+abbrev μ-loop : tie.MeasureT-loop
+μ-loop heads bodies count w k₀ k = count - k
+
+pub violated-spec : {M : Type 1} → statement M
+violated-spec = tie.close (tie.spec Inv-loop μ-loop (λ c. search selecting) (λ c. search selecting) (λ c. search selecting) (λ c. search selecting) (λ c. search selecting) (λ c. search selecting) (λ c. search selecting) (λ c. search selecting) (λ c. search selecting) (λ c. search selecting) (λ c. search selecting))

@@ -1,0 +1,42 @@
+-- What is taken of the stage that ends the run. Assumes nothing.
+use Prim.Native.Nat.{ℕ, _+_, _≤_}
+use lib.Bits.{bitAnd}
+use lib.Dec.{eqb}
+use mathlib.Core.Bool.{Bool, false, cond, not, _&&_}
+use mathlib.Core.List.{List}
+use mathlib.Core.Path.{_≡_}
+use lib.ListN.{length, take}
+use Rattle.sets.specs.Lists.{sift, some}
+use Rattle.sets.specs.Words.{inside}
+use Rattle.stages.specs.Operator.{WordRule}
+use Rattle.stages.specs.Run.{finalStage, crowded}
+
+-- w contains the body of c and meets its head nowhere
+unfoldable pub violates : ℕ → WordRule → Bool
+violates w c = inside (c .body) w && eqb (bitAnd (c .head) w) 0
+
+-- w satisfies every clause
+unfoldable pub satisfies : List WordRule → ℕ → Bool
+satisfies Q w = not (some (violates w) Q)
+
+-- v is a proper subset of w
+unfoldable pub properIn : ℕ → ℕ → Bool
+properIn w v = inside v w && not (eqb v w)
+
+-- no member of the list is a proper subset of w
+unfoldable pub leastIn : List ℕ → ℕ → Bool
+leastIn l w = not (some (properIn w) l)
+
+-- the minimal ones of a list
+unfoldable pub minimals : List ℕ → List ℕ
+minimals l = sift (leastIn l) l
+
+-- "take the members that satisfy all transformed clauses, of these the minimal ones"
+unfoldable pub minimalModels : List WordRule → List ℕ
+minimalModels Q = minimals (sift (satisfies Q) (finalStage Q))
+
+-- the minimal models, rising, at the start of a working slice: their number, or one more than the room where some stage has more members than that
+pub record Minimals (Q : List WordRule) (room r : ℕ) (out : List ℕ) : Type 0 where
+  pub count : r ≡ cond (crowded Q room) (room + 1) (length (minimalModels Q))
+  pub words : crowded Q room ≡ false → take r out ≡ minimalModels Q
+  pub fits : crowded Q room ≡ false → r ≤ room

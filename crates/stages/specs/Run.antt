@@ -1,0 +1,50 @@
+-- The run of the stages: where it ends, and whether the working room holds them. Assumes nothing.
+use Prim.Native.Nat.{ℕ, suc, _+_, _≤_, _<_}
+use lib.Dec.{ltb}
+use lib.ListN.{length, take}
+use mathlib.Core.Bool.{Bool, false, cond}
+use mathlib.Core.List.{List}
+use mathlib.Core.Path.{_≡_}
+use Rattle.lists.specs.Bytes.{same}
+use Rattle.sets.specs.Lists.{some, below}
+use Rattle.sets.specs.Least.{least}
+use Rattle.stages.specs.Operator.{WordRule, stage}
+
+-- The first stage that its successor equals: "a stage equal to its successor is reached at stage W + 1 at the latest", and W is at most 64.
+unfoldable pub resting : List WordRule → ℕ
+resting Q = least (λ k. same (stage Q k) (stage Q (suc k))) 65
+
+-- "The run ends at the first stage equal to the one before".
+unfoldable pub ending : List WordRule → ℕ
+ending Q = suc (resting Q)
+
+-- the stage that ends the run
+unfoldable pub finalStage : List WordRule → List ℕ
+finalStage Q = stage Q (ending Q)
+
+-- Refusal 12: "Some stage, up to the one that ends the run, has more members than the working room."
+unfoldable pub crowded : List WordRule → ℕ → Bool
+crowded Q room = some (λ k. ltb room (length (stage Q k))) (below (suc (ending Q)))
+
+-- ---- a run that has come to stage k
+
+pub record Reached (Q : List WordRule) (room k : ℕ) : Type 0 where
+  pub most : k ≤ 65
+  pub early : (i : ℕ) → i < k → same (stage Q i) (stage Q (suc i)) ≡ false
+  pub roomy : (i : ℕ) → i ≤ k → length (stage Q i) ≤ room
+
+-- ---- the answer of a run
+
+-- r and the two working slices at exit: the number of members of the stage that ends the run, which stand in the first places of both, or one more than the room
+pub record Settled (Q : List WordRule) (room r : ℕ) (a b : List ℕ) : Type 0 where
+  pub count : r ≡ cond (crowded Q room) (room + 1) (length (finalStage Q))
+  pub first : crowded Q room ≡ false → take r a ≡ finalStage Q
+  pub second : crowded Q room ≡ false → take r b ≡ finalStage Q
+  pub fits : crowded Q room ≡ false → r ≤ room
+
+-- the run has come to stage k, which stands in the first places of a
+pub record Settling (Q : List WordRule) (a : List ℕ) (members : ℕ) (b : List ℕ) (k : ℕ) : Type 0 where
+  pub inside : members ≤ length a
+  pub long : length b ≡ length a
+  pub is : take members a ≡ stage Q k
+  pub reached : Reached Q (length a) k
