@@ -1,0 +1,152 @@
+-- The loops that put out the transformed clauses. Assumes nothing.
+use Prim.Native.Nat.{ℕ, zero, suc, _+_, _*_, _/_, _^_, _%_, _≤_, _<_}
+use borrow.Author.Needs.{needs}
+use borrow.Author.Tests.{eq-eqb, ne-eqb}
+use lib.Bits.{bitOr, or-zero-r}
+use lib.Count.{trailingZeros}
+use lib.Dec.{lit<}
+use lib.ListN.{length}
+use lib.Pow.{shl-exact}
+use mathlib.Core.List.{List, [], _∷_, flatMap}
+use mathlib.Core.Path.{_≡_, refl, sym, ap, ap₂, _∙_, subst}
+use mir.Syntax.{w64}
+use mir.Val.{Fits}
+use native.Mathlib.Nat.{one-mul, add-zero}
+use native.Mathlib.Omega.{arith}
+use Rattle.sets.specs.Words.{mask}
+use Rattle.stages.specs.Literals.{here, bitsFrom, literals, low}
+use Rattle.stages.specs.Operator.{WordRule, rulesFrom}
+use Rattle.transform.proofs.Emit.{emits-one, emits-as, Walk, walk-start, walk-literal, walk-place, walk-room, walk-step, walk-less, walk-heads, walk-bodies, walk-done}
+use Rattle.transform.specs.Emit.{Emits, Room, forEach, oneB, oneC, eachC, eachD}
+use Rattle.transform.specs.Transform.{Stand, numbered, clauseB, clauseC, clauseD}
+
+-- ---- words
+
+pub single-is : (t : ℕ) → t < 64 → 1 * 2 ^ t % 2 ^ 64 ≡ mask (t ∷ [])
+unfolding mask
+single-is t h = shl-exact 1 t 64 (lit< tt) (omega arith) ∙ one-mul (2 ^ t) ∙ sym (or-zero-r (2 ^ t))
+
+pub couple-is : (t u x y : ℕ) → x ≡ mask (t ∷ []) → y ≡ mask (u ∷ []) → bitOr x y ≡ mask (t ∷ u ∷ [])
+unfolding mask
+couple-is t u x y p q = ap₂ bitOr (p ∙ or-zero-r (2 ^ t)) q
+
+-- ---- one clause
+
+pub room-there : (c : WordRule) (hs bs : List ℕ) (at : ℕ) → Room (c ∷ []) hs bs at → (at < length hs) × (at < length bs)
+room-there c hs bs at r = (omega (arith, r .heads), omega (arith, r .bodies))
+
+pub b-there : (p : Stand) (hs bs : List ℕ) (at : ℕ) → Room (oneB p) hs bs at → (at < length hs) × (at < length bs)
+unfolding oneB
+b-there p hs bs at r = room-there (clauseB p) hs bs at r
+
+pub b-is : (t p h b : ℕ) (hs bs : List ℕ) (at : ℕ) (hs′ bs′ : List ℕ) (r : ℕ) → h ≡ mask (t ∷ []) → b ≡ mask (p ∷ []) → Emits (record { head = h; body = b } ∷ []) hs bs at hs′ bs′ r
+    → Emits (oneB (record { literal = t; at = p })) hs bs at hs′ bs′ r
+unfolding oneB
+b-is t p h b hs bs at hs′ bs′ r e f g = emits-as _ _ hs bs at hs′ bs′ r (ap₂ (λ (x y : ℕ). record { head = x; body = y } ∷ []) e f) g
+
+pub c-there : (a : ℕ) (n : Stand) (hs bs : List ℕ) (at : ℕ) → Room (oneC a n) hs bs at → (at < length hs) × (at < length bs)
+unfolding oneC
+c-there a n hs bs at r = room-there (clauseC a (n .literal)) hs bs at r
+
+pub c-is : (a t b : ℕ) (hs bs : List ℕ) (at : ℕ) (hs′ bs′ : List ℕ) (r : ℕ) → b ≡ mask (a ∷ t ∷ []) → Emits (record { head = 0; body = b } ∷ []) hs bs at hs′ bs′ r
+    → Emits (oneC a (record { literal = t; at = 0 })) hs bs at hs′ bs′ r
+unfolding oneC mask
+c-is a t b hs bs at hs′ bs′ r e g = emits-as _ _ hs bs at hs′ bs′ r (ap (λ (y : ℕ). record { head = 0; body = y } ∷ []) e) g
+
+module _ (t p u q : ℕ) (hs bs : List ℕ) (at : ℕ) where
+  pub d-none : t ≡ u → Emits (clauseD (record { literal = t; at = p }) (record { literal = u; at = q })) hs bs at hs bs at
+  d-none e = emits-as [] (clauseD (record { literal = t; at = p }) (record { literal = u; at = q })) hs bs at hs bs at (sym (rw (eq-eqb t u e)))
+      (record { count = sym (add-zero at); rules = sym (mathlib.Core.List.append-nil (rulesFrom hs bs 0 at)); heads = refl; bodies = refl })
+
+  some : (t ≡ u → ⊥) → clauseD (record { literal = t; at = p }) (record { literal = u; at = q }) ≡ record { head = mask (p ∷ []); body = mask (t ∷ q ∷ []) } ∷ []
+  some n = rw (ne-eqb t u n)
+
+  pub d-there : (t ≡ u → ⊥) → Room (clauseD (record { literal = t; at = p }) (record { literal = u; at = q })) hs bs at → (at < length hs) × (at < length bs)
+  d-there n r = room-there (record { head = mask (p ∷ []); body = mask (t ∷ q ∷ []) }) hs bs at (subst (λ (X : List WordRule). Room X hs bs at) (some n) r)
+
+  pub d-is : (h b : ℕ) (hs′ bs′ : List ℕ) (r : ℕ) → (t ≡ u → ⊥) → h ≡ mask (p ∷ []) → b ≡ mask (t ∷ q ∷ []) → Emits (record { head = h; body = b } ∷ []) hs bs at hs′ bs′ r
+      → Emits (clauseD (record { literal = t; at = p }) (record { literal = u; at = q })) hs bs at hs′ bs′ r
+  d-is h b hs′ bs′ r n e f g = emits-as _ _ hs bs at hs′ bs′ r (ap₂ (λ (x y : ℕ). record { head = x; body = y } ∷ []) e f ∙ sym (some n)) g
+
+-- ---- a walk whose clauses do not mind the numbering
+
+here-short : (d p k : ℕ) (l : List ℕ) → length l ≤ k → length (here d p l) ≤ suc k
+here-short zero p k l h = omega arith
+here-short (suc d) p k l h = omega arith
+
+pub bits-short : (k p s : ℕ) → length (bitsFrom k p s) ≤ k
+unfolding bitsFrom
+bits-short zero p s = omega arith
+bits-short (suc k) p s = here-short (s % 2) p k (bitsFrom k (p + 1) (s / 2)) (bits-short k (p + 1) (s / 2))
+
+renumber : (a : ℕ) (l : List ℕ) (p q : ℕ) → flatMap (oneC a) (numbered p l) ≡ flatMap (oneC a) (numbered q l)
+unfolding flatMap numbered oneC
+renumber a [] p q = refl
+renumber a (x ∷ l) p q = ap (λ (R : List WordRule). clauseC a x ∷ R) (renumber a l (p + 1) (q + 1))
+
+module _ (a naf : ℕ) (hs₀ bs₀ : List ℕ) (at₀ : ℕ) where
+  pub run-start : Fits w64 naf → Room (forEach (oneC a) 0 naf) hs₀ bs₀ at₀ → Walk (oneC a) naf 0 hs₀ bs₀ at₀ naf 0 hs₀ bs₀ at₀
+  run-start h r = walk-start (oneC a) naf 0 hs₀ bs₀ at₀ (h .fits) (let b = bits-short 64 0 naf in omega arith) r
+
+  pub run-step : (rest : ℕ) (hs bs : List ℕ) (at t : ℕ) (hs′ bs′ : List ℕ) (r : ℕ) → Walk (oneC a) naf 0 hs₀ bs₀ at₀ rest 0 hs bs at → (rest ≡ 0 → ⊥) → t ≡ trailingZeros 64 rest
+      → Emits (oneC a (record { literal = t; at = 0 })) hs bs at hs′ bs′ r → Walk (oneC a) naf 0 hs₀ bs₀ at₀ (low rest) 0 hs′ bs′ r
+  run-step rest hs bs at t hs′ bs′ r w n e c =
+      let v = walk-step (oneC a) naf 0 hs₀ bs₀ at₀ rest 0 hs bs at w t hs′ bs′ r n e c in
+      record {
+        small = v .small;
+        places = let b = bits-short 64 0 (low rest) in omega arith;
+        emits = subst (λ (R : List WordRule). Rattle.transform.proofs.Emit.Emitting (forEach (oneC a) 0 naf) R hs₀ bs₀ at₀ hs′ bs′ r) (renumber a (literals (low rest)) (0 + 1) 0) (v .emits);
+      }
+
+-- ---- a walk whose clauses are a callee's
+
+module _ (naf head s : ℕ) (hs₀ bs₀ : List ℕ) (at₀ rest p : ℕ) (hs bs : List ℕ) (at : ℕ) (w : Walk (eachC naf) head s hs₀ bs₀ at₀ rest p hs bs at) where
+  pub c-room : (rest ≡ 0 → ⊥) → Room (forEach (oneC p) 0 naf) hs bs at
+  unfolding eachC
+  c-room n = walk-room (eachC naf) head s hs₀ bs₀ at₀ rest p hs bs at w (trailingZeros 64 rest) n refl
+
+  pub c-step : (hs′ bs′ : List ℕ) (r : ℕ) → (rest ≡ 0 → ⊥) → Emits (forEach (oneC p) 0 naf) hs bs at hs′ bs′ r → Walk (eachC naf) head s hs₀ bs₀ at₀ (low rest) (p + 1) hs′ bs′ r
+  unfolding eachC
+  c-step hs′ bs′ r n c = walk-step (eachC naf) head s hs₀ bs₀ at₀ rest p hs bs at w (trailingZeros 64 rest) hs′ bs′ r n refl c
+
+module _ (head s : ℕ) (hs₀ bs₀ : List ℕ) (at₀ rest p : ℕ) (hs bs : List ℕ) (at : ℕ) (w : Walk (eachD head s) head s hs₀ bs₀ at₀ rest p hs bs at) where
+  pub d-room : (t : ℕ) → (rest ≡ 0 → ⊥) → t ≡ trailingZeros 64 rest → Room (forEach (clauseD (record { literal = t; at = p })) s head) hs bs at
+  unfolding eachD
+  d-room t n e = walk-room (eachD head s) head s hs₀ bs₀ at₀ rest p hs bs at w t n e
+
+  pub d-step : (t : ℕ) (hs′ bs′ : List ℕ) (r : ℕ) → (rest ≡ 0 → ⊥) → t ≡ trailingZeros 64 rest → Emits (forEach (clauseD (record { literal = t; at = p })) s head) hs bs at hs′ bs′ r
+      → Walk (eachD head s) head s hs₀ bs₀ at₀ (low rest) (p + 1) hs′ bs′ r
+  unfolding eachD
+  d-step t hs′ bs′ r n e c = walk-step (eachD head s) head s hs₀ bs₀ at₀ rest p hs bs at w t hs′ bs′ r n e c
+
+pub walk-begin : (f : Stand → List WordRule) (head s : ℕ) (hs₀ bs₀ : List ℕ) (at₀ : ℕ) → Fits w64 head → s + length (literals head) ≤ 64 → Room (forEach f s head) hs₀ bs₀ at₀ → Walk f head s hs₀ bs₀ at₀ head s hs₀ bs₀ at₀
+walk-begin f head s hs₀ bs₀ at₀ h l r = walk-start f head s hs₀ bs₀ at₀ (h .fits) l r
+
+pub ruleset emitting = (
+  single-is,
+  couple-is,
+  emits-one,
+  b-there,
+  b-is,
+  c-there,
+  c-is,
+  d-none,
+  d-there,
+  d-is,
+  walk-begin,
+  walk-literal,
+  walk-place,
+  walk-room,
+  walk-step,
+  walk-less,
+  walk-heads,
+  walk-bodies,
+  walk-done,
+  run-start,
+  run-step,
+  c-room,
+  c-step,
+  d-room,
+  d-step,
+  needs,
+)
