@@ -1,17 +1,19 @@
 -- What the loops over a table's clauses find, at a node and at a leaf. Assumes nothing.
 use mathlib.Core.Path.{_≡_, refl, sym, ap, ap₂, _∙_, fun-ext}
 use mathlib.Core.Bool.{Bool, true, false, cond, _&&_, _||_, and-false}
+use mathlib.Core.Logic.{⊎-elim}
 use mathlib.Core.List.{List, [], _∷_}
 use Prim.Native.Nat.{ℕ, zero, suc, _+_, _-_, _*_, _%_, _^_, _≤_, _<_}
 use native.Mathlib.Nat.{one-mul, zero-add, add-zero, add-suc, sub-zero}
 use native.Mathlib.Numerals.{add-one}
 use native.Mathlib.Omega.{arith}
 use lib.Dec.{lit<, eqb, eqb·suc-zero}
-use lib.Bits.{bitAnd, bitOr, and-mod, and-zero-r}
+use lib.Bits.{bitAnd, bitOr, and-mod, and-zero-l, and-zero-r, and-le-l, and-le-r, or-zero-l, or-add-and}
 use lib.Pow.{shl-exact}
-use borrow.Author.Tests.{eqb-true, eq-eqb}
+use borrow.Author.Tests.{eqb-true, eqb-false, eq-eqb, ne-eqb}
 use Rattle.sets.specs.Lists.{some, upFrom, onward, tabulate}
 use Rattle.sets.specs.Words.{Inside, inside, apart}
+use Rattle.sets.proofs.Tests.{dec}
 use Rattle.sets.proofs.Lists.{Lacks, lacks-start, lacks-not, lacks-more, lacks-done, onward-start}
 use Rattle.program.specs.Clauses.{Clause, clauseOf, clauseAt, rowsOf}
 use Rattle.stable.specs.Interpretations.{isStable}
@@ -65,23 +67,48 @@ unfolding dead
 node-tested P k w {reach} p e q =
     q ∙ ap (λ (x : ℕ). some (rulesOut x w x) P) e ∙ ap (λ (f : Clause → Bool). some f P) (fun-ext (dead-test k w (p .low)))
 
+-- ---- several words are zero where their union is
+or-zero : (a b : ℕ) → eqb (bitOr a b) 0 ≡ eqb a 0 && eqb b 0
+or-zero zero b = rw (or-zero-l b)
+or-zero (suc a) b =
+    let d : bitOr (suc a) b ≡ 0 → ⊥ = omega (arith, or-add-and (suc a) b, and-le-r (suc a) b) in
+    ne-eqb (bitOr (suc a) b) 0 d ∙ rw (eqb·suc-zero a)
+
+-- what is left of a outside w is zero where a lies in w
+out-zero : (a w : ℕ) → eqb (a - bitAnd a w) 0 ≡ inside a w
+out-zero a w = ⊎-elim
+    (λ t. let e = eqb-true (bitAnd a w) a t in eq-eqb (a - bitAnd a w) 0 (omega arith) ∙ sym t)
+    (λ f. let d = eqb-false (bitAnd a w) a f in ne-eqb (a - bitAnd a w) 0 (λ z. d (omega (arith, and-le-l a w))) ∙ sym f)
+    (dec (inside a w))
+
+pub ruled-out : (h b n by w reach : ℕ) → eqb (bitOr (bitOr (b - bitAnd b w) (bitAnd n by)) (bitAnd h reach)) 0 ≡ rulesOut by w reach (clauseOf h b n)
+unfolding rulesOut
+ruled-out h b n by w reach = rw (or-zero (bitOr (b - bitAnd b w) (bitAnd n by)) (bitAnd h reach), or-zero (b - bitAnd b w) (bitAnd n by), out-zero b w)
+
 -- ---- the support of one clause
-module _ (h b n w : ℕ) where
-  pub none-met : (x : ℕ) → x ≡ bitAnd h w → x ≡ 0 → 0 ≡ supports w (clauseOf h b n)
-  unfolding supports
-  none-met x e z = rw (← e, z) (sym (both (inside b w && apart n w && apart 0 (0 - 1) && apart 0 b)))
-    where
-      both : (t : Bool) → _≡_ {A = ℕ} (cond t 0 0) 0
-      both true = refl
-      both false = refl
+-- one less, but for zero, which is apart from everything
+lower-is : (x y : ℕ) → (y + 1) % 2 ^ 32 ≡ x → y < 2 ^ 32 → bitAnd x y ≡ bitAnd x (x - 1)
+lower-is zero y e l = rw (and-zero-l y)
+lower-is (suc x) y e l = let q : y ≡ suc x - 1 = omega arith in ap (bitAnd (suc x)) q
 
-  pub is-support : (x : ℕ) → x ≡ bitAnd h w → (inside b w && apart n w && apart x (x - 1) && apart x b) ≡ true → x ≡ supports w (clauseOf h b n)
-  unfolding supports
-  is-support x e t = rw (← e, t)
+module _ (h b n w x y : ℕ) (e : x ≡ bitAnd h w) (m : (y + 1) % 2 ^ 32 ≡ x) (l : y < 2 ^ 32) where
+  tested : eqb (bitOr (bitOr (bitOr (b - bitAnd b w) (bitAnd n w)) (bitAnd x y)) (bitAnd x b)) 0 ≡ (inside b w && apart n w && apart x (x - 1) && apart x b)
+  tested =
+      rw (
+        or-zero (bitOr (bitOr (b - bitAnd b w) (bitAnd n w)) (bitAnd x y)) (bitAnd x b),
+        or-zero (bitOr (b - bitAnd b w) (bitAnd n w)) (bitAnd x y),
+        or-zero (b - bitAnd b w) (bitAnd n w),
+        out-zero b w,
+        lower-is x y m l,
+      )
 
-  pub no-support : (x : ℕ) → x ≡ bitAnd h w → (inside b w && apart n w && apart x (x - 1) && apart x b) ≡ false → 0 ≡ supports w (clauseOf h b n)
+  pub is-support : bitOr (bitOr (bitOr (b - bitAnd b w) (bitAnd n w)) (bitAnd x y)) (bitAnd x b) ≡ 0 → x ≡ supports w (clauseOf h b n)
   unfolding supports
-  no-support x e t = rw (← e, t)
+  is-support z = rw (← e, sym tested ∙ eq-eqb _ 0 z)
+
+  pub no-support : (bitOr (bitOr (bitOr (b - bitAnd b w) (bitAnd n w)) (bitAnd x y)) (bitAnd x b) ≡ 0 → ⊥) → 0 ≡ supports w (clauseOf h b n)
+  unfolding supports
+  no-support z = rw (← e, sym tested ∙ ne-eqb _ 0 z)
 
 -- the loop that gathers the support of each clause
 pub record Gathered (hs bs ns : List ℕ) (n w i all : ℕ) : Type 0 where

@@ -29,11 +29,11 @@ pub struct SearchAnswer {
 }
 
 // ---- clauses that rule out every word from `w` up to `reach`
-// Whether the body lies in `w`, the not-part misses `by` and the head misses `reach`.
+// Whether the body lies in `w`, the not-part misses `by` and the head misses `reach`; one test, since three are three branches.
 fn rules_out(head: u32, body: u32, naf: u32, by: u32, w: u32, reach: u32) -> bool
     ensures { λ r. ⌜ r ≡ rulesOut by w reach (clauseOf head body naf) ⌝ }
 {
-    (body & w == body) & (naf & by == 0) & (head & reach == 0)
+    ((body - (body & w)) | (naf & by) | (head & reach)) == 0
 }
 
 // Whether that is so of some clause.
@@ -90,10 +90,8 @@ fn support(head: u32, body: u32, naf: u32, w: u32) -> u32
     ensures { λ r. ⌜ r ≡ supports w (clauseOf head body naf) ⌝ }
 {
     let met = head & w;
-    if met == 0 {
-        return 0;
-    }
-    if (body & w == body) & (naf & w == 0) & (met & (met - 1) == 0) & (met & body == 0) {
+    let below = std::num::wrapping_sub_u32(met, 1);
+    if ((body - (body & w)) | (naf & w) | (met & below) | (met & body)) == 0 {
         return met;
     }
     0
