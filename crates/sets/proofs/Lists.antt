@@ -264,3 +264,24 @@ in-below n x m = let r = upFrom-in (λ i. i) n 0 x m in omega (arith, r .2, r .3
 pub length-below : (n : ℕ) → length (below n) ≡ n
 unfolding below
 length-below n = length-tabulate (λ i. i) n
+
+-- ---- what passes, in two parts
+module _ {A : Type 0} where
+  pub upFrom-add : (f : ℕ → A) (a b i : ℕ) → upFrom f (a + b) i ≡ upFrom f a i ++ upFrom f b (i + a)
+  unfolding upFrom
+  upFrom-add f zero b i = rw (zero-add, add-zero)
+  upFrom-add f (suc a) b i = rw (suc-add, add-suc) (ap (λ (l : List A). f i ∷ l) (upFrom-add f a b (suc i) ∙ rw suc-add))
+
+  pub sift-append : (p : A → Bool) (s t : List A) → sift p (s ++ t) ≡ sift p s ++ sift p t
+  unfolding sift
+  sift-append p [] t = refl
+  sift-append p (x ∷ s) t = go (p x) (sift-append p s t)
+    where
+      go : (b : Bool) → sift p (s ++ t) ≡ sift p s ++ sift p t → cond b (x ∷ sift p (s ++ t)) (sift p (s ++ t)) ≡ cond b (x ∷ sift p s) (sift p s) ++ sift p t
+      go true e = rw e
+      go false e = e
+
+  pub sift-none : (p : A → Bool) (l : List A) → Each (λ x. p x ≡ false) l → sift p l ≡ []
+  unfolding sift
+  sift-none p [] f = refl
+  sift-none p (x ∷ l) f = rw (f x (inl refl)) (sift-none p l (λ y m. f y (inr m)))

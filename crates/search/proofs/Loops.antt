@@ -1,0 +1,139 @@
+-- What the loops over a table's clauses find, at a node and at a leaf. Assumes nothing.
+use mathlib.Core.Path.{_≡_, refl, sym, ap, ap₂, _∙_, fun-ext}
+use mathlib.Core.Bool.{Bool, true, false, cond, _&&_, _||_, and-false}
+use mathlib.Core.Logic.{⊎-elim}
+use mathlib.Core.List.{List, [], _∷_}
+use Prim.Native.Nat.{ℕ, zero, suc, _+_, _-_, _*_, _%_, _^_, _≤_, _<_}
+use native.Mathlib.Nat.{one-mul, zero-add, add-zero, add-suc, sub-zero}
+use native.Mathlib.Numerals.{add-one}
+use native.Mathlib.Omega.{arith}
+use lib.Dec.{lit<, eqb, eqb·suc-zero}
+use lib.Bits.{bitAnd, bitOr, and-mod, and-zero-l, and-zero-r, and-le-l, and-le-r, or-zero-l, or-add-and}
+use lib.Pow.{shl-exact}
+use borrow.Author.Tests.{eqb-true, eqb-false, eq-eqb, ne-eqb}
+use Rattle.sets.specs.Lists.{some, upFrom, onward, tabulate}
+use Rattle.sets.specs.Words.{Inside, inside, apart}
+use Rattle.sets.proofs.Tests.{dec}
+use Rattle.sets.proofs.Lists.{Lacks, lacks-start, lacks-not, lacks-more, lacks-done, onward-start}
+use Rattle.program.specs.Clauses.{Clause, clauseOf, clauseAt, rowsOf}
+use Rattle.semantics.specs.Interpretations.{isStable}
+use Rattle.search.specs.Tree.{decided, deadBy, dead}
+use Rattle.search.specs.Leaf.{rulesOut, supports, supportFrom, supported}
+use Rattle.search.specs.Seek.{Placed}
+use Rattle.search.proofs.Nodes.{and-reach}
+use Rattle.search.proofs.Supported.{unsupported}
+
+-- ---- a loop that looks for a clause that passes
+module _ (hs bs ns : List ℕ) (n : ℕ) (p : Clause → Bool) where
+  rows-from : some p (onward (clauseAt hs bs ns) n 0) ≡ some p (rowsOf hs bs ns n)
+  unfolding rowsOf
+  rows-from = ap (some p) (onward-start (clauseAt hs bs ns) n)
+
+  pub look-start : Lacks (clauseAt hs bs ns) n p 0 0
+  look-start = lacks-start (clauseAt hs bs ns) n p 0
+
+  pub look-on : (i : ℕ) {r : Bool} → Lacks (clauseAt hs bs ns) n p 0 i → i < n → r ≡ p (clauseAt hs bs ns i) → r ≡ false → Lacks (clauseAt hs bs ns) n p 0 (i + 1)
+  look-on i s h e t = lacks-more (clauseAt hs bs ns) n p 0 i s h (sym e ∙ t)
+
+  pub look-hit : (i : ℕ) {r : Bool} → Lacks (clauseAt hs bs ns) n p 0 i → i < n → r ≡ p (clauseAt hs bs ns i) → r ≡ true → true ≡ some p (rowsOf hs bs ns n)
+  look-hit i s h e t = lacks-not (clauseAt hs bs ns) n p 0 i s h (sym e ∙ t) ∙ rows-from
+
+  pub look-none : (i : ℕ) → Lacks (clauseAt hs bs ns) n p 0 i → n ≤ i → false ≡ some p (rowsOf hs bs ns n)
+  look-none i s h = lacks-done (clauseAt hs bs ns) n p 0 i s h ∙ rows-from
+
+-- ---- the node test: every undecided bit is put into the word
+in-settled : (k w x : ℕ) → w % 2 ^ k ≡ 0 → decided k x && inside x w ≡ inside x w
+in-settled k w x z = go (inside x w) refl
+  where
+    go : (b : Bool) → inside x w ≡ b → decided k x && b ≡ b
+    go true e =
+        let i : Inside x w = eqb-true _ _ e in
+        rw (eq-eqb (x % 2 ^ k) 0 (ap (λ y. y % 2 ^ k) (sym i) ∙ and-mod x w k ∙ rw z (and-zero-r (x % 2 ^ k))))
+    go false e = and-false (decided k x)
+
+sum-zero : (a b : ℕ) → eqb (a + b) 0 ≡ eqb b 0 && eqb a 0
+sum-zero a zero = rw add-zero
+sum-zero a (suc b) = rw (add-suc, eqb·suc-zero (a + b), eqb·suc-zero b)
+
+out-settled : (k w x : ℕ) → w % 2 ^ k ≡ 0 → decided k x && apart x w ≡ apart x (w + (2 ^ k - 1))
+out-settled k w x z = rw (and-reach k x w z) (sym (sum-zero (bitAnd x w) (x % 2 ^ k)))
+
+dead-test : (k w : ℕ) → w % 2 ^ k ≡ 0 → (c : Clause) → rulesOut (w + (2 ^ k - 1)) w (w + (2 ^ k - 1)) c ≡ deadBy k w c
+unfolding rulesOut deadBy
+dead-test k w z c = rw (in-settled k w (c .body) z, out-settled k w (c .naf) z, out-settled k w (c .head) z)
+
+pub node-tested : (P : List Clause) (k w : ℕ) {reach : ℕ} {r : Bool} → Placed k w → reach ≡ w + (2 ^ k - 1) → r ≡ some (rulesOut reach w reach) P → r ≡ dead P k w
+unfolding dead
+node-tested P k w {reach} p e q =
+    q ∙ ap (λ (x : ℕ). some (rulesOut x w x) P) e ∙ ap (λ (f : Clause → Bool). some f P) (fun-ext (dead-test k w (p .low)))
+
+-- ---- several words are zero where their union is
+or-zero : (a b : ℕ) → eqb (bitOr a b) 0 ≡ eqb a 0 && eqb b 0
+or-zero zero b = rw (or-zero-l b)
+or-zero (suc a) b =
+    let d : bitOr (suc a) b ≡ 0 → ⊥ = omega (arith, or-add-and (suc a) b, and-le-r (suc a) b) in
+    ne-eqb (bitOr (suc a) b) 0 d ∙ rw (eqb·suc-zero a)
+
+-- what is left of a outside w is zero where a lies in w
+out-zero : (a w : ℕ) → eqb (a - bitAnd a w) 0 ≡ inside a w
+out-zero a w = ⊎-elim
+    (λ t. let e = eqb-true (bitAnd a w) a t in eq-eqb (a - bitAnd a w) 0 (omega arith) ∙ sym t)
+    (λ f. let d = eqb-false (bitAnd a w) a f in ne-eqb (a - bitAnd a w) 0 (λ z. d (omega (arith, and-le-l a w))) ∙ sym f)
+    (dec (inside a w))
+
+pub ruled-out : (h b n by w reach : ℕ) → eqb (bitOr (bitOr (b - bitAnd b w) (bitAnd n by)) (bitAnd h reach)) 0 ≡ rulesOut by w reach (clauseOf h b n)
+unfolding rulesOut
+ruled-out h b n by w reach = rw (or-zero (bitOr (b - bitAnd b w) (bitAnd n by)) (bitAnd h reach), or-zero (b - bitAnd b w) (bitAnd n by), out-zero b w)
+
+-- ---- the support of one clause
+-- one less, but for zero, which is apart from everything
+lower-is : (x y : ℕ) → (y + 1) % 2 ^ 32 ≡ x → y < 2 ^ 32 → bitAnd x y ≡ bitAnd x (x - 1)
+lower-is zero y e l = rw (and-zero-l y)
+lower-is (suc x) y e l = let q : y ≡ suc x - 1 = omega arith in ap (bitAnd (suc x)) q
+
+module _ (h b n w x y : ℕ) (e : x ≡ bitAnd h w) (m : (y + 1) % 2 ^ 32 ≡ x) (l : y < 2 ^ 32) where
+  tested : eqb (bitOr (bitOr (bitOr (b - bitAnd b w) (bitAnd n w)) (bitAnd x y)) (bitAnd x b)) 0 ≡ (inside b w && apart n w && apart x (x - 1) && apart x b)
+  tested =
+      rw (
+        or-zero (bitOr (bitOr (b - bitAnd b w) (bitAnd n w)) (bitAnd x y)) (bitAnd x b),
+        or-zero (bitOr (b - bitAnd b w) (bitAnd n w)) (bitAnd x y),
+        or-zero (b - bitAnd b w) (bitAnd n w),
+        out-zero b w,
+        lower-is x y m l,
+      )
+
+  pub is-support : bitOr (bitOr (bitOr (b - bitAnd b w) (bitAnd n w)) (bitAnd x y)) (bitAnd x b) ≡ 0 → x ≡ supports w (clauseOf h b n)
+  unfolding supports
+  is-support z = rw (← e, sym tested ∙ eq-eqb _ 0 z)
+
+  pub no-support : (bitOr (bitOr (bitOr (b - bitAnd b w) (bitAnd n w)) (bitAnd x y)) (bitAnd x b) ≡ 0 → ⊥) → 0 ≡ supports w (clauseOf h b n)
+  unfolding supports
+  no-support z = rw (← e, sym tested ∙ ne-eqb _ 0 z)
+
+-- the loop that gathers the support of each clause
+pub record Gathered (hs bs ns : List ℕ) (n w i all : ℕ) : Type 0 where
+  pub within : i ≤ n
+  pub whole : supportFrom w (onward (clauseAt hs bs ns) n i) all ≡ supported (rowsOf hs bs ns n) w
+
+module _ (hs bs ns : List ℕ) (n w : ℕ) where
+  pub gather-none : Gathered hs bs ns n w 0 0
+  unfolding supported rowsOf
+  gather-none = record { within = omega arith; whole = ap (λ (P : List Clause). supportFrom w P 0) (onward-start (clauseAt hs bs ns) n) }
+
+  pub gather-one : (i all r : ℕ) → Gathered hs bs ns n w i all → i < n → r ≡ supports w (clauseAt hs bs ns i) → Gathered hs bs ns n w (i + 1) (bitOr all r)
+  unfolding supportFrom onward upFrom
+  gather-one i all r g h e = record {
+    within = omega arith;
+    whole = let q : n - i ≡ suc (n - (i + 1)) = omega arith in rw (add-one i, e) (rw (q, add-one i) at (g .whole));
+  }
+
+  pub gather-all : (i all : ℕ) → Gathered hs bs ns n w i all → n ≤ i → all ≡ supported (rowsOf hs bs ns n) w
+  unfolding supportFrom onward upFrom
+  gather-all i all g h = let q : n - i ≡ 0 = omega arith in rw q at (g .whole)
+
+pub leaf-unsupported : (P : List Clause) (w s : ℕ) → s ≡ supported P w → (bitAnd w s ≡ w → ⊥) → false ≡ isStable P w
+leaf-unsupported P w s e h = sym (unsupported P w (λ i. h (rw e i)))
+
+-- ---- a bit as a word
+pub one-shl : (k : ℕ) → k ≤ 31 → 1 * 2 ^ k % 2 ^ 32 ≡ 2 ^ k
+one-shl k h = shl-exact 1 k 32 (lit< tt) (omega arith) ∙ one-mul (2 ^ k)

@@ -1,0 +1,195 @@
+-- What every search answers and lists, for every table, every allowance A and every lent list l. Assumes nothing.
+use mathlib.Core.Path.{_≡_, refl, sym, ap, _∙_}
+use mathlib.Core.Bool.{Bool, true, false, cond, not}
+use mathlib.Core.Logic.{_↔_, _⊎_, ⊎-elim}
+use mathlib.Core.List.{List, [], _∷_, _++_}
+use Prim.Native.Nat.{ℕ, suc, _+_, _-_, _*_, _%_, _^_, _≤_, _<_}
+use native.Mathlib.Omega.{arith}
+use lib.Dec.{eqb, ltb}
+use lib.ListN.{length, take, drop, length-take, length-drop, length-append, take-append-drop}
+use lib.Seq.{take-append-seam, drop-append-seam, take-all}
+use borrow.Author.Tests.{ltb-true, ltb-false, le-ltb, not-true, not-false}
+use Rattle.sets.specs.Lists.{Begins}
+use Rattle.sets.specs.Words.{bit}
+use Rattle.sets.proofs.Tests.{dec, clash}
+use Rattle.sets.proofs.Rising.{begins-append, begins-take}
+use Rattle.program.specs.declared.Program.{Program}
+use Rattle.program.specs.Clauses.{Clause, clauses, rows, rowsOf}
+use Rattle.program.specs.Valid.{valid}
+use Rattle.program.specs.Refusals.{lowest}
+use Rattle.program.proofs.Validity.{valid-names, valid-clauses}
+use Rattle.semantics.specs.Definitions.{PStable}
+use Rattle.semantics.specs.Interpretations.{rulesOf, isStable, models}
+use Rattle.stable.proofs.Decides.{stable-PStable, PStable-stable}
+use Rattle.search.specs.declared.Outcome.the-variants.{Complete, Full, Spent, Refused}
+use Rattle.search.specs.declared.SearchAnswer.{SearchAnswer}
+use Rattle.search.specs.Tree.{Node, Dead, dead, tree, nodeCount, isStableLeaf, hits, stableLeaves}
+use Rattle.search.specs.Answer.{answer, overfull, fullAt, runAnswer, listing, runExit, leafOf, nodesOf, refusal, answerOf, exitOf, listed, refusedBy, Searches, Ends}
+use Rattle.search.proofs.Nodes.{hits-append, leaves-models, unstable-below, count-nodes}
+
+-- ---- the tree
+-- no leaf below a node that D calls dead is p-stable
+abbrev pub Harmless : Dead → List Clause → Type 0
+Harmless D P = (k w r : ℕ) → w % 2 ^ k ≡ 0 → D k w ≡ true → r < 2 ^ k → PStable (rulesOf P) (bit (w + r)) → ⊥
+
+-- for every such dead test, the p-stable leaves in visiting order are exactly the p-stable words, rising
+pub leaves-are-models : (D : Dead) (n : ℕ) (P : List Clause) → Harmless D P → stableLeaves D P (tree D n) ≡ models n P
+leaves-are-models D n P h = leaves-models D P (λ k w r z d l. ⊎-elim
+    (λ t. absurd (h k w r z d l (stable-PStable P (w + r) t)))
+    (λ f. f)
+    (dec (isStable P (w + r)))) n
+
+-- document 01's dead test is such a test
+pub dead-harmless : (P : List Clause) → Harmless (dead P) P
+dead-harmless P k w r z d l s = clash (isStable P (w + r)) (PStable-stable P (w + r) s) (unstable-below k w r z l P d)
+
+-- "N is at most 2^(2n+1) - 1"
+pub node-count : (D : Dead) (n : ℕ) → nodeCount D n ≤ 2 ^ (2 * n + 1) - 1
+node-count D n = let e : 2 * n + 1 ≡ suc (2 * n) = omega arith in rw e (omega (arith, count-nodes D (2 * n) 0))
+
+-- ---- a run over nodes
+module _ (hit : Node → Bool) (xs : List Node) (A : ℕ) where
+  -- the number of words written is the answer's
+  written-is : (L : ℕ) → runAnswer hit xs A L .written ≡ length (listing hit xs A L)
+  unfolding runAnswer listing overfull
+  written-is L = go (ltb L (length (hits hit (take A xs)))) refl (ltb A (length xs))
+    where
+      go : (b : Bool) → ltb L (length (hits hit (take A xs))) ≡ b → (c : Bool)
+          → (cond b (answer Full L (fullAt hit xs L)) (cond c (answer Spent (length (hits hit (take A xs))) A) (answer Complete (length (hits hit (take A xs))) (length xs)))) .written
+          ≡ length (take L (hits hit (take A xs)))
+      go true e c =
+          let h : L < length (hits hit (take A xs)) = ltb-true _ _ e in
+          let q : L ≡ length (take L (hits hit (take A xs))) = omega (arith, length-take L (hits hit (take A xs))) in
+          q
+      go false e true = ap length (sym (take-all L (hits hit (take A xs)) (ltb-false _ _ e)))
+      go false e false = ap length (sym (take-all L (hits hit (take A xs)) (ltb-false _ _ e)))
+
+  listing-begins : (L : ℕ) → Begins (listing hit xs A L) (hits hit xs)
+  unfolding listing
+  listing-begins L =
+      begins-take L (hits hit (take A xs)) (hits hit xs)
+      (rw (take-append-drop A xs) at (rw (← hits-append hit (take A xs) (drop A xs)) at (begins-append (hits hit (take A xs)) (hits hit (drop A xs)))))
+
+  fits : (L : ℕ) → length (listing hit xs A L) ≤ L
+  unfolding listing
+  fits L = omega (arith, length-take L (hits hit (take A xs)))
+
+  exit-first : (l : List ℕ) → take (length (listing hit xs A (length l))) (runExit hit xs A l) ≡ listing hit xs A (length l)
+  unfolding runExit
+  exit-first l = take-append-seam (listing hit xs A (length l)) (drop (length (listing hit xs A (length l))) l)
+
+  exit-rest : (l : List ℕ) → drop (length (listing hit xs A (length l))) (runExit hit xs A l) ≡ drop (length (listing hit xs A (length l))) l
+  unfolding runExit
+  exit-rest l = drop-append-seam (listing hit xs A (length l)) (drop (length (listing hit xs A (length l))) l)
+
+  exit-length : (l : List ℕ) → length (runExit hit xs A l) ≡ length l
+  unfolding runExit
+  exit-length l =
+      let ws = listing hit xs A (length l) in
+      omega (arith, length-append ws (drop (length ws) l), length-drop (length ws) l, fits (length l))
+
+  complete-when : (L : ℕ) → (runAnswer hit xs A L .outcome ≡ Complete) ↔ ((length xs ≤ A) × (length (hits hit xs) ≤ L))
+  unfolding runAnswer overfull
+  complete-when L = (
+    λ e. go (ltb L (length (hits hit (take A xs)))) (ltb A (length xs)) refl refl e,
+    λ h.
+        let a : take A xs ≡ xs = take-all A xs (h .0) in
+        let r : length (hits hit (take A xs)) ≤ L = rw a (h .1) in
+        rw (le-ltb L (length (hits hit (take A xs))) r, le-ltb A (length xs) (h .0)),
+  )
+    where
+      go : (b c : Bool) → ltb L (length (hits hit (take A xs))) ≡ b → ltb A (length xs) ≡ c
+          → (cond b (answer Full L (fullAt hit xs L)) (cond c (answer Spent (length (hits hit (take A xs))) A) (answer Complete (length (hits hit (take A xs))) (length xs)))) .outcome ≡ Complete
+          → (length xs ≤ A) × (length (hits hit xs) ≤ L)
+      go true c p q e = absurd (let z : _≡_ {A = ℕ} 0 1 = cc in omega arith)
+      go false true p q e = absurd (let z : _≡_ {A = ℕ} 0 1 = cc in omega arith)
+      go false false p q e =
+          let h : length xs ≤ A = ltb-false _ _ q in
+          let r : length (hits hit (take A xs)) ≤ L = ltb-false _ _ p in
+          (h, rw (take-all A xs h) at r)
+
+  complete-all : (L : ℕ) → length xs ≤ A → length (hits hit xs) ≤ L → listing hit xs A L ≡ hits hit xs
+  unfolding listing
+  complete-all L h r = rw (take-all A xs h) (take-all L (hits hit xs) r)
+
+-- ---- the search of a table
+leaves-of : (p : Program) → hits (leafOf p) (nodesOf p) ≡ models (p .«atom_count») (clauses p)
+leaves-of p = leaves-are-models (dead (clauses p)) (p .«atom_count») (clauses p) (dead-harmless (clauses p))
+
+module _ (p : Program) (A : ℕ) (l : List ℕ) where
+  -- a table that the reader could give: the answer and the list of the run; any other: refusal 9, and the list as it was
+  pub accepted : valid p ≡ true → (answerOf p A l ≡ runAnswer (leafOf p) (nodesOf p) A (length l)) × (exitOf p A l ≡ runExit (leafOf p) (nodesOf p) A l)
+  unfolding answerOf exitOf refusal lowest
+  accepted v = (rw v, rw v)
+
+  pub refused : valid p ≡ false → (answerOf p A l ≡ answer (Refused 9) 0 0) × (exitOf p A l ≡ l)
+  unfolding answerOf exitOf refusal lowest
+  refused v = (rw v, rw v)
+
+  -- the number that a refusal carries is document 01's lowest
+  pub refused-by : refusedBy (answerOf p A l .outcome) ≡ refusal p
+  unfolding answerOf refusedBy refusal lowest runAnswer
+  refused-by = go (valid p) (overfull (leafOf p) (nodesOf p) (length l) A) (ltb A (length (nodesOf p)))
+    where
+      go : (v b c : Bool) → refusedBy ((cond (eqb (cond (not v) 9 0) 0)
+          (cond b (answer Full (length l) (fullAt (leafOf p) (nodesOf p) (length l)))
+          (cond c (answer Spent (length (hits (leafOf p) (take A (nodesOf p)))) A) (answer Complete (length (hits (leafOf p) (take A (nodesOf p)))) (length (nodesOf p)))))
+          (answer (Refused (cond (not v) 9 0)) 0 0)) .outcome) ≡ cond (not v) 9 0
+      go true true c = refl
+      go true false true = refl
+      go true false false = refl
+      go false b c = refl
+
+  listed-is : valid p ≡ true → listed p A l ≡ listing (leafOf p) (nodesOf p) A (length l)
+  unfolding listed
+  listed-is v =
+      let a = accepted v in
+      rw (a .0, a .1, written-is (leafOf p) (nodesOf p) A (length l)) (exit-first (leafOf p) (nodesOf p) A l)
+
+  listed-none : valid p ≡ false → listed p A l ≡ []
+  unfolding listed
+  listed-none v = rw (refused v .0)
+
+  -- what a search lists is the first part of the rising list of the p-stable words: the lowest ones, each just once
+  pub lists-lowest : Begins (listed p A l) (models (p .«atom_count») (clauses p))
+  lists-lowest = ⊎-elim
+      (λ v. rw (listed-is v, ← leaves-of p) (listing-begins (leafOf p) (nodesOf p) A (length l)))
+      (λ v. rw (listed-none v) (begins-append [] (models (p .«atom_count») (clauses p))))
+      (dec (valid p))
+
+  -- "List places beyond those written keep their content."
+  pub keeps-rest : drop (answerOf p A l .written) (exitOf p A l) ≡ drop (answerOf p A l .written) l
+  keeps-rest = ⊎-elim
+      (λ v. let a = accepted v in rw (a .0, a .1, written-is (leafOf p) (nodesOf p) A (length l)) (exit-rest (leafOf p) (nodesOf p) A l))
+      (λ v. rw (refused v .1))
+      (dec (valid p))
+
+  pub same-places : length (exitOf p A l) ≡ length l
+  same-places = ⊎-elim (λ v. rw (accepted v .1) (exit-length (leafOf p) (nodesOf p) A l)) (λ v. rw (refused v .1)) (dec (valid p))
+
+  -- it says complete exactly when its allowance reaches N and its list has a place for every p-stable word
+  pub complete-exactly : valid p ≡ true
+      → (answerOf p A l .outcome ≡ Complete) ↔ ((nodeCount (dead (clauses p)) (p .«atom_count») ≤ A) × (length (models (p .«atom_count») (clauses p)) ≤ length l))
+  complete-exactly v = rw (accepted v .0, ← leaves-of p) (complete-when (leafOf p) (nodesOf p) A (length l))
+
+  -- complete says all
+  pub complete-lists-all : answerOf p A l .outcome ≡ Complete → listed p A l ≡ models (p .«atom_count») (clauses p)
+  complete-lists-all e = ⊎-elim
+      (λ v.
+      let h = complete-when (leafOf p) (nodesOf p) A (length l) .0 (rw (accepted v .0) at e) in
+      listed-is v ∙ complete-all (leafOf p) (nodesOf p) A (length l) (h .0) (h .1) ∙ leaves-of p)
+      (λ v. absurd (let q = rw (refused v .0) at e in let z : _≡_ {A = ℕ} 0 1 = cc in omega arith))
+      (dec (valid p))
+
+  -- ---- the ways that the call returns
+  pub no-table : {v : Bool} {a : SearchAnswer} → v ≡ valid p → not v ≡ true → a ≡ answer (Refused 9) 0 0 → Searches p A l a l
+  no-table {v} e h q = let r = refused (sym e ∙ not-true v h) in record { says = q ∙ sym (r .0); lists = sym (r .1) }
+
+  pub searched : {v : Bool} {a : SearchAnswer} {m : List ℕ} → v ≡ valid p → not v ≡ false
+      → Ends (dead (rowsOf (p .heads) (p .bodies) (p .nafs) (p .«clause_count»))) (rowsOf (p .heads) (p .bodies) (p .nafs) (p .«clause_count»)) (p .«atom_count») A l a m → Searches p A l a m
+  unfolding clauses rows
+  searched {v} e h q = let r = accepted (sym e ∙ not-false v h) in record { says = q .says ∙ sym (r .0); lists = q .lists ∙ sym (r .1) }
+
+-- what the run asks of its table
+pub asks : (p : Program) {v : Bool} → v ≡ valid p → not v ≡ false → (p .«clause_count» ≤ 64) × (p .«atom_count» ≤ 12)
+asks p {v} e h = let t = sym e ∙ not-false v h in (valid-clauses p t .short, valid-names p t .few)

@@ -1,0 +1,65 @@
+-- The loop of the search: each turn seeks the next p-stable leaf. Assumes nothing.
+use mathlib.Core.Path.{_≡_, refl, sym, ap, _∙_}
+use mathlib.Core.Bool.{Bool}
+use mathlib.Core.List.{List}
+use Prim.Native.Nat.{ℕ, _+_, _-_, _*_, _^_, _≤_, _<_}
+use native.Mathlib.Omega.{arith}
+use lib.ListN.{length, set, length-set}
+use Rattle.program.specs.Clauses.{Clause}
+use Rattle.search.specs.declared.Outcome.the-variants.{Complete, Full, Spent}
+use Rattle.search.specs.declared.SearchAnswer.{SearchAnswer}
+use Rattle.search.specs.Tree.{Dead, tree, isStableLeaf}
+use Rattle.search.specs.Answer.{answer, Ends}
+use Rattle.search.specs.Seek.{Sought, none, spent, fromWord}
+use Rattle.search.proofs.Machine.{state, on, runs, runs-answer}
+use Rattle.search.proofs.Seeking.{all-map, nodes-between, fromWord-all, ordered-nodes, ordered-fromWord, fromWord-fromWord, all-from, runs-none, runs-spent, runs-full, runs-found, sought-above, sought-below}
+use Rattle.search.proofs.Visits.{small-words, placed-root, leaf-undecided}
+
+-- the search has m models listed and v nodes visited, and goes on with the nodes from x on
+pub record Searching (D : Dead) (P : List Clause) (A n : ℕ) (l₀ : List ℕ) (x m v : ℕ) (l : List ℕ) : Type 0 where
+  pub room : length l ≡ length l₀
+  pub within : x ≤ 2 ^ 24
+  pub same : runs (isStableLeaf D P) A (fromWord x (tree D n)) (on m v l) ≡ runs (isStableLeaf D P) A (tree D n) (on 0 0 l₀)
+
+module _ (D : Dead) (P : List Clause) (A n : ℕ) (l₀ : List ℕ) where
+  pub turn-start : Searching D P A n l₀ 0 0 0 l₀
+  turn-start = record {
+    room = refl;
+    within = omega arith;
+    same = ap (λ ns. runs (isStableLeaf D P) A ns (on 0 0 l₀)) (fromWord-all 0 (tree D n) (all-map _ _ (λ u h. omega arith) (tree D n) (nodes-between D (2 * n) 0)));
+  }
+
+  ended : (b : SearchAnswer) (l : List ℕ) {a : SearchAnswer} → a ≡ b → state b l ≡ runs (isStableLeaf D P) A (tree D n) (on 0 0 l₀) → Ends D P n A l₀ a l
+  ended b l q e = record {
+    says = q ∙ ap (λ s. s .so-far) (e ∙ runs-answer (isStableLeaf D P) A (tree D n) l₀);
+    lists = ap (λ s. s .list) (e ∙ runs-answer (isStableLeaf D P) A (tree D n) l₀);
+  }
+
+  module _ (x m v : ℕ) (l : List ℕ) (g : Searching D P A n l₀ x m v l) (few : n ≤ 12) (r v′ : ℕ) (s : Sought (isStableLeaf D P) A x (tree D n) v r v′) where
+    pub turn-none : {a : SearchAnswer} → r ≡ none → a ≡ answer Complete m v′ → Ends D P n A l₀ a l
+    turn-none h y = ended (answer Complete m v′) l y (sym (sym (g .same) ∙ runs-none (isStableLeaf D P) A m l (fromWord x (tree D n)) v (small-words D x (2 * n) 0 (placed-root n few)) (sym (s .word) ∙ h) ∙ rw (← s .nodes)))
+
+    pub turn-spent : {a : SearchAnswer} → r ≡ spent → a ≡ answer Spent m v′ → Ends D P n A l₀ a l
+    turn-spent h y = ended (answer Spent m v′) l y (sym (sym (g .same) ∙ runs-spent (isStableLeaf D P) A m l (fromWord x (tree D n)) v (small-words D x (2 * n) 0 (placed-root n few)) (sym (s .word) ∙ h) ∙ rw (← s .nodes)))
+
+    module _ (p : r ≡ none → ⊥) (q : r ≡ spent → ⊥) where
+      pub turn-full : {a : SearchAnswer} → length l ≤ m → a ≡ answer Full m v′ → Ends D P n A l₀ a l
+      turn-full h y = ended (answer Full m v′) l y (sym (sym (g .same) ∙ runs-full (isStableLeaf D P) A m l (fromWord x (tree D n)) v (λ e. p (s .word ∙ e)) (λ e. q (s .word ∙ e)) h ∙ rw (← s .nodes)))
+
+      pub turn-above : x ≤ r
+      turn-above = rw (s .word) (sought-above (isStableLeaf D P) A m l (fromWord x (tree D n)) x v (all-from x (tree D n)) (λ e. p (s .word ∙ e)) (λ e. q (s .word ∙ e)))
+
+      pub turn-below : r < 2 ^ 24
+      turn-below = rw (s .word) (sought-below (isStableLeaf D P) A m l (fromWord x (tree D n)) (2 ^ 24) v (small-words D x (2 * n) 0 (placed-root n few)) (λ e. p (s .word ∙ e)) (λ e. q (s .word ∙ e)))
+
+      pub turn-falls : 2 ^ 24 - (r + 1) < 2 ^ 24 - x
+      turn-falls = omega (arith, turn-above, turn-below)
+
+      pub turn-next : m < length l → Searching D P A n l₀ (r + 1) (m + 1) v′ (set l m r)
+      turn-next h = record {
+        room = length-set l m r ∙ g .room;
+        within = omega (arith, turn-below);
+        same = sym (sym (g .same)
+            ∙ runs-found (isStableLeaf D P) A m l (fromWord x (tree D n)) v (leaf-undecided D P) (ordered-fromWord x (tree D n) (ordered-nodes D (2 * n) 0)) (λ e. p (s .word ∙ e)) (λ e. q (s .word ∙ e)) h
+            ∙ rw (← s .word, ← s .nodes, fromWord-fromWord x (r + 1) (tree D n) (omega (arith, turn-above))));
+      }

@@ -1,0 +1,12 @@
+-- `search::rules_out` meets its contract. Assumes nothing.
+use native.Mathlib.Omega.{arith}
+use lib.Bits.{and-le-l}
+use Rattle.search.proofs.Rules.{rules}
+use Rattle.search.proofs.rules_out.Statement.{statement}
+use Rattle.search.proofs.rules_out.Tie as tie
+
+sub-result : tie.Need-sub-result
+sub-result c = omega (arith, and-le-l (c .args .body) (c .args .w))
+
+pub rules-out-spec : {M : Type 1} → statement M
+rules-out-spec = tie.close (tie.spec sub-result (λ c. search rules))
