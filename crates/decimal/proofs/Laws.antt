@@ -8,14 +8,16 @@ use native.Mathlib.Nat.{pow-suc}
 use native.Mathlib.Omega.{arith}
 use lib.Dec.{ltb, leb}
 use lib.ListN.{length, length-append}
-use borrow.Author.Tests.{lt-ltb, le-ltb}
+use borrow.Author.Tests.{lt-ltb, le-ltb, le-leb, lt-leb}
 use Rattle.sets.specs.Lists.{every}
 use Rattle.sets.specs.Least.{least}
 use Rattle.sets.proofs.Tests.{dec, lt-or-ge, both-true, clash}
 use Rattle.sets.proofs.Least.{least-is, least-hit, least-none, least-le}
 use Rattle.lists.specs.Bytes.{same}
 use Rattle.lists.proofs.Loops.{same-true, same-self}
-use Rattle.decimal.specs.Decimal.{digits, decimal, numberOf}
+use Rattle.decimal.specs.declared.Parsed.{Parsed}
+use Rattle.decimal.specs.declared.Parsed.the-variants.{Number, Nothing}
+use Rattle.decimal.specs.Decimal.{digits, decimal, numberOf, parsedOf}
 
 -- ---- digit by digit
 digits-one : (k v : ℕ) → v < 10 → digits (suc k) v ≡ (48 + v) ∷ []
@@ -121,3 +123,33 @@ decimal-every p f = by-tens (λ v. every p (decimal v) ≡ true)
     append : (xs : List ℕ) (d : ℕ) → every p xs ≡ true → p (48 + d) ≡ true → every p (xs ++ (48 + d) ∷ []) ≡ true
     append [] d h k = rw k
     append (x ∷ xs) d h k = let a = both-true (p x) (every p xs) h in rw (a .0, append xs d (a .1) k)
+
+-- ---- what a parsed text says
+abbrev theNumber : Parsed → ℕ
+theNumber (Number v) = v
+theNumber Nothing = 0
+
+abbrev isNumber : Parsed → Bool
+isNumber (Number v) = true
+isNumber Nothing = false
+
+module _ (bound : ℕ) (item : List ℕ) where
+  found : numberOf bound item ≤ bound → parsedOf bound item ≡ Number (numberOf bound item)
+  unfolding parsedOf
+  found h = rw (le-leb (numberOf bound item) bound h)
+
+  lost : bound < numberOf bound item → parsedOf bound item ≡ Nothing
+  unfolding parsedOf
+  lost h = rw (lt-leb (numberOf bound item) bound h)
+
+  pub parsed-number : (v : ℕ) → Number v ≡ parsedOf bound item → (v ≡ numberOf bound item) × (v ≤ bound)
+  parsed-number v e = ⊎-elim
+      (λ (l : bound < numberOf bound item). clash true refl (sym (ap isNumber (sym (lost l) ∙ sym e))))
+      (λ l. let q = ap theNumber (e ∙ found l) in (q, omega arith))
+      (lt-or-ge bound (numberOf bound item))
+
+  pub parsed-nothing : Nothing ≡ parsedOf bound item → suc bound ≡ numberOf bound item
+  parsed-nothing e = ⊎-elim
+      (λ (l : bound < numberOf bound item). omega (arith, number-le bound item))
+      (λ l. clash true refl (ap isNumber (sym (found l) ∙ sym e)))
+      (lt-or-ge bound (numberOf bound item))

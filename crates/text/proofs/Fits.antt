@@ -10,14 +10,14 @@ use borrow.Author.Tests.{eq-eqb, ne-eqb, not-false, leb-true, ltb-false}
 use Rattle.sets.specs.Lists.{every, some}
 use Rattle.sets.proofs.Tests.{both-true}
 use Rattle.lists.specs.Bytes.{padded, distinct, pieces, ended, endOf, count, EndsAt, Counts}
-use Rattle.lists.proofs.Pieces.{length-ended}
+use Rattle.lists.proofs.Pieces.{length-ended, end-le}
 use Rattle.program.specs.Names.{isName}
 use Rattle.program.specs.Refusals.{lowest}
 use Rattle.program.specs.declared.Program.{Program}
 use Rattle.text.specs.declared.Read.{Read}
 use Rattle.text.specs.declared.Verdict.the-variants.{Refused, Accepted}
 use Rattle.text.specs.Lines.{names, clauseLines, row}
-use Rattle.text.specs.Tables.{headOf, bodyOf, nafOf, placed, tableOf, zeroTable}
+use Rattle.text.specs.Tables.{wordBy, placed, tableOf, zeroTable}
 use Rattle.text.specs.Refusals.{wrongSize, unended, hasForeign, tooManyLines, namesBroken, namesEqual, lineHolds, clauseBroken, onlyZeros, refusal}
 use Rattle.text.specs.Reading.{programOf, readOf}
 use Rattle.text.proofs.Tests.{HasLine, plain-line, both-lines, names-are, clause-lines-are, behind, names-count}
@@ -78,46 +78,60 @@ fit b h =
       whole = not-false _ (t .t7);
     }
 
-module _ (b : List ℕ) (f : Fit b) (e : ℕ) (q : EndsAt b 10 0 e) where
-  pub fit-named : every isName (pieces 32 (take e b)) ≡ true
-  fit-named = ap (every isName) (sym (names-are b e (f .line) q)) ∙ f .named
+module _ (b : List ℕ) (z : refusal b ≡ 0) where
+  module _ (e : ℕ) (q : EndsAt b 10 0 e) where
+    here : HasLine b
+    here = fit b z .line
 
-  pub fit-items : length (pieces 32 (take e b)) ≤ 12
-  fit-items = omega (arith, ap length (names-are b e (f .line) q), f .few)
+    pub fit-named : every isName (pieces 32 (take e b)) ≡ true
+    fit-named = ap (every isName) (sym (names-are b e here q)) ∙ fit b z .named
 
-  pub fit-from : e + 1 ≤ length b
-  fit-from = behind b e (f .line) q
+    pub fit-items : length (pieces 32 (take e b)) ≤ 12
+    fit-items = omega (arith, ap length (names-are b e here q), fit b z .few)
 
-  pub fit-lines : length (ended 10 (drop (e + 1) b)) ≤ 64
-  fit-lines = omega (arith, f .many, ap length (both-lines b e (f .line) q))
+    pub fit-placed : padded 96 (placed (pieces 32 (take e b))) ≡ padded 96 (placed (names b))
+    fit-placed = ap (λ (l : List (List ℕ)). padded 96 (placed l)) (sym (names-are b e here q))
 
-  pub fit-some : (m : ℕ) → Counts 10 b m → m ≡ 1 + length (ended 10 (drop (e + 1) b))
-  fit-some m c = omega (arith, c .is, length-ended 10 b, ap length (both-lines b e (f .line) q))
+    pub fit-from : e + 1 ≤ length b
+    fit-from = behind b e here q
 
-  pub fit-few : (n : ℕ) → Counts 32 (take e b) n → n + 1 ≡ length (names b)
-  fit-few n c = names-count b e (f .line) q n c
+    pub fit-lines : length (ended 10 (drop (e + 1) b)) ≤ 64
+    fit-lines = omega (arith, fit b z .many, ap length (both-lines b e here q))
 
-  pub fit-whole : (n : ℕ) → Counts 32 (take e b) n → every (lineHolds (n + 1)) (ended 10 (drop (e + 1) b)) ≡ true
-  fit-whole n c =
-      ap₂ (λ (m : ℕ) (l : List (List ℕ)). every (lineHolds m) l) (fit-few n c) (sym (clause-lines-are b e (f .line) q)) ∙ f .whole
+    pub fit-few : (n : ℕ) → Counts 32 (take e b) n → n + 1 ≡ length (names b)
+    fit-few n c = names-count b e here q n c
+
+    pub fit-whole : every (lineHolds (length (names b))) (ended 10 (drop (e + 1) b)) ≡ true
+    fit-whole = ap (every (lineHolds (length (names b)))) (sym (clause-lines-are b e here q)) ∙ fit b z .whole
+
+    pub fit-words : (k : ℕ) → padded 64 (map (wordBy k) (map row (ended 10 (drop (e + 1) b)))) ≡ padded 64 (map (wordBy k) (map row (clauseLines b)))
+    fit-words k = ap (λ (l : List (List ℕ)). padded 64 (map (wordBy k) (map row l))) (sym (clause-lines-are b e here q))
+
+  -- one line more than clauses
+  pub fit-count : (m : ℕ) → Counts 10 b m → m ≡ 1 + length (clauseLines b)
+  unfolding clauseLines
+  fit-count m c = go (ended 10 b) (omega (arith, c .is, length-ended 10 b)) (ended-some (fit b z .line))
+    where
+      go : (ls : List (List ℕ)) → m ≡ length ls → 1 ≤ length ls → m ≡ 1 + length (tail ls)
+      go [] e h = absurd (omega arith)
+      go (l ∷ ls) e h = omega arith
+
+      ended-some : HasLine b → 1 ≤ length (ended 10 b)
+      ended-some h = omega (arith, ap length (both-lines b (endOf 10 b 0) h (record { is = refl; from = omega arith; to = omega (arith, end-le 10 b 0 (omega arith)) })))
 
 -- ---- the reader's answer
+pub table-is : (b : List ℕ) (n m : ℕ) (nm hs bs fs : List ℕ) → n ≡ length (names b) → nm ≡ padded 96 (placed (names b)) → m ≡ length (clauseLines b)
+    → hs ≡ padded 64 (map (wordBy 1) (map row (clauseLines b)))
+    → bs ≡ padded 64 (map (wordBy 4) (map row (clauseLines b)))
+    → fs ≡ padded 64 (map (wordBy 16) (map row (clauseLines b)))
+    → record { «atom_count» = n; «atom_names» = nm; «clause_count» = m; heads = hs; bodies = bs; nafs = fs } ≡ programOf b
+unfolding programOf tableOf
+table-is b n m nm hs bs fs en em ec eh eb ef = rw (en, em, ec, eh, eb, ef, ← length-map (clauseLines b) row)
+
 pub read-no : (b : List ℕ) (num : ℕ) (p : Program) → num ≡ refusal b → (num ≡ 0 → ⊥) → p ≡ zeroTable → record { verdict = Refused num; program = p } ≡ readOf b
 unfolding readOf
 read-no b num p e h q = rw (← e, ne-eqb num 0 h, q)
 
-pub read-yes : (b : List ℕ) (num e n m : ℕ) (nm hs bs fs : List ℕ) → num ≡ refusal b → num ≡ 0 → EndsAt b 10 0 e → Counts 32 (take e b) n → Counts 10 b m
-    → nm ≡ padded 96 (placed (pieces 32 (take e b)))
-    → hs ≡ padded 64 (map headOf (map row (ended 10 (drop (e + 1) b))))
-    → bs ≡ padded 64 (map bodyOf (map row (ended 10 (drop (e + 1) b))))
-    → fs ≡ padded 64 (map nafOf (map row (ended 10 (drop (e + 1) b))))
-    → record { verdict = Accepted; program = record { «atom_count» = n + 1; «atom_names» = nm; «clause_count» = m - 1; heads = hs; bodies = bs; nafs = fs } } ≡ readOf b
-unfolding readOf programOf tableOf
-read-yes b num e n m nm hs bs fs r z q cn cm en eh eb ef =
-    let f = fit b (sym r ∙ z) in
-    let ns = sym (names-are b e (f .line) q) in
-    let ls = sym (clause-lines-are b e (f .line) q) in
-    let a : n + 1 ≡ length (names b) = fit-few b f e q n cn in
-    let c : m - 1 ≡ length (map row (clauseLines b)) =
-    omega (arith, fit-some b f e q m cm, ap length ls, length-map (clauseLines b) row) in
-    rw (← r, eq-eqb num 0 z, a, c, en, eh, eb, ef, ns, ls)
+pub read-yes : (b : List ℕ) (num : ℕ) (p : Program) → num ≡ refusal b → num ≡ 0 → p ≡ programOf b → record { verdict = Accepted; program = p } ≡ readOf b
+unfolding readOf
+read-yes b num p e z q = rw (← e, eq-eqb num 0 z, q)

@@ -1,5 +1,6 @@
 -- The laws that the other crates cite; RoundTrip has the theorems.
 pub mod Values
+pub mod Names
 pub mod Tests
 pub mod Fits
 pub mod Books

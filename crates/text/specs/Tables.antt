@@ -15,15 +15,21 @@ wordOf (d ∷ ds) = d + 4 * wordOf ds
 unfoldable pub bitsOf : ℕ → ℕ → ℕ
 bitsOf k v = v / k % 4
 
--- "1: the name stands in the head; 2: its negation does", 4 and 8 for the body, 16 and 32 for the not-part: the word that a row gives
-unfoldable pub headOf : List ℕ → ℕ
-headOf vs = wordOf (map (bitsOf 1) vs)
+-- the word of those bits of a row's values
+unfoldable pub wordBy : ℕ → List ℕ → ℕ
+wordBy k vs = wordOf (map (bitsOf k) vs)
 
-unfoldable pub bodyOf : List ℕ → ℕ
-bodyOf vs = wordOf (map (bitsOf 4) vs)
+-- "1: the name stands in the head; 2: its negation does"
+abbrev pub headOf : List ℕ → ℕ
+headOf vs = wordBy 1 vs
 
-unfoldable pub nafOf : List ℕ → ℕ
-nafOf vs = wordOf (map (bitsOf 16) vs)
+-- "4: the name stands in the body; 8: its negation does"
+abbrev pub bodyOf : List ℕ → ℕ
+bodyOf vs = wordBy 4 vs
+
+-- "16: "not name" stands in the body; 32: "not negation" does"
+abbrev pub nafOf : List ℕ → ℕ
+nafOf vs = wordBy 16 vs
 
 -- names, each in a place of eight bytes
 unfoldable pub placed : List (List ℕ) → List ℕ
