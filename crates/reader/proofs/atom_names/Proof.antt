@@ -1,7 +1,7 @@
 -- `reader::atom_names` meets its contract. Assumes nothing.
 use mathlib.Core.Path.{_∙_}
 use Rattle.text.proofs.Fits.{fit-placed}
-use Rattle.reader.proofs.Rules.{rules}
+use Rattle.reader.proofs.TableRules.{rules}
 use Rattle.reader.proofs.atom_names.Statement.{statement}
 use Rattle.reader.proofs.atom_names.Tie as tie
 

@@ -1,7 +1,7 @@
 -- `reader::clause_count` meets its contract. Assumes nothing.
 use native.Mathlib.Omega.{arith}
 use Rattle.text.proofs.Fits.{fit-count}
-use Rattle.reader.proofs.Rules.{rules}
+use Rattle.reader.proofs.TableRules.{rules}
 use Rattle.reader.proofs.clause_count.Statement.{statement}
 use Rattle.reader.proofs.clause_count.Tie as tie
 

@@ -2,7 +2,7 @@
 use mathlib.Core.Path.{_∙_}
 use native.Mathlib.Omega.{arith}
 use Rattle.text.proofs.Fits.{fit, fit-words, fit-from, fit-lines, fit-whole}
-use Rattle.reader.proofs.Rules.{rules}
+use Rattle.reader.proofs.TableRules.{rules}
 use Rattle.reader.proofs.clause_words.Statement.{statement}
 use Rattle.reader.proofs.clause_words.Tie as tie
 

@@ -3,7 +3,7 @@ use Prim.Native.Nat.{_-_}
 use lib.ListN.{length}
 use Rattle.lists.specs.Bytes.{EndsAt}
 use Rattle.reader.proofs.Words.{Columned}
-use Rattle.reader.proofs.Rules.{rules}
+use Rattle.reader.proofs.TableRules.{rules}
 use Rattle.reader.proofs.column.Statement.{statement}
 use Rattle.reader.proofs.column.Tie as tie
 

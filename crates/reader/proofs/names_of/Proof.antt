@@ -1,7 +1,7 @@
 -- `reader::names_of` meets its contract. Assumes nothing.
 use mathlib.Core.Path.{_∙_}
 use Rattle.lists.proofs.Padding.{over-padded}
-use Rattle.reader.proofs.Rules.{rules}
+use Rattle.reader.proofs.TableRules.{rules}
 use Rattle.reader.proofs.names_of.Statement.{statement}
 use Rattle.reader.proofs.names_of.Tie as tie
 

@@ -1,5 +1,5 @@
 -- `reader::read_program` meets its contract. Assumes nothing.
-use Rattle.reader.proofs.Rules.{rules}
+use Rattle.reader.proofs.TableRules.{rules}
 use Rattle.reader.proofs.read_program.Statement.{statement}
 use Rattle.reader.proofs.read_program.Tie as tie
 

@@ -1,5 +1,5 @@
 -- `reader::table_of` meets its contract. Assumes nothing.
-use Rattle.reader.proofs.Rules.{rules}
+use Rattle.reader.proofs.TableRules.{rules}
 use Rattle.reader.proofs.table_of.Statement.{statement}
 use Rattle.reader.proofs.table_of.Tie as tie
 

@@ -1,6 +1,6 @@
 -- `reader::zero_table` meets its contract. Assumes nothing.
 use Rattle.text.specs.Tables.{zeroTable}
-use Rattle.reader.proofs.Rules.{rules}
+use Rattle.reader.proofs.TableRules.{rules}
 use Rattle.reader.proofs.zero_table.Statement.{statement}
 use Rattle.reader.proofs.zero_table.Tie as tie
 

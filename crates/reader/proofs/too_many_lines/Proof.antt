@@ -1,7 +1,0 @@
--- `reader::too_many_lines` meets its contract. Assumes nothing.
-use Rattle.reader.proofs.Rules.{rules}
-use Rattle.reader.proofs.too_many_lines.Statement.{statement}
-use Rattle.reader.proofs.too_many_lines.Tie as tie
-
-pub too-many-lines-spec : {M : Type 1} → statement M
-too-many-lines-spec = tie.close (tie.spec (λ c. search rules) (λ c. search rules))
