@@ -2,3 +2,4 @@
 pub mod Pieces
 pub mod Loops
 pub mod Writing
+pub mod Padding

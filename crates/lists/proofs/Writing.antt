@@ -77,6 +77,27 @@ module _ (xs L : List ℕ) where
     pub put-as : (r r′ : List ℕ) → Put xs L at out r → r ≡ r′ → Put xs L at out r′
     put-as r r′ s e = record { whole = s .whole; left = s .left ∙ e; within = s .within; fits = s .fits }
 
+-- the list out after a part of it from at on came back as ws
+abbrev pub back : List ℕ → ℕ → List ℕ → List ℕ
+back out at ws = take at out ++ (ws ++ drop (length out - at) (drop at out))
+
+-- a text that was written is the first part of a longer one
+pub wrote-put : (xs t u ys : List ℕ) (a : ℕ) → length (t ++ u) ≤ length xs → Wrote t xs a ys → Put xs (t ++ u) a ys u
+wrote-put xs t u ys a l v =
+    let p : Put xs (t ++ u) (length t) ys u =
+    rw (← zero-add (length t)) (put-step xs (t ++ u) 0 xs t u ys (put-start xs (t ++ u) l) (v .whole ∙ ap (λ (m : ℕ). t ++ drop m xs) (sym (zero-add (length t))))) in
+    rw (v .size) p
+
+-- one text, and another behind it
+pub two-texts : (xs t u : List ℕ) (a b : ℕ) (ys ws : List ℕ) → length (t ++ u) ≤ length xs → Wrote t xs a ys → Wrote u (take (length ys - a) (drop a ys)) b ws
+    → Wrote (t ++ u) xs (a + b) (back ys a ws)
+two-texts xs t u a b ys ws l v w =
+    let L = t ++ u in
+    let q : Put xs L a ys (u ++ []) = rw append-nil (wrote-put xs t u ys a l v) in
+    let r = put-step xs L a ys u [] (back ys a ws) q
+    (part-back ys u ws a (omega (arith, put-room xs L a ys u [] q, q .fits, put-long xs L a ys (u ++ []) q)) (w .whole)) in
+    put-done xs L (a + b) (back ys a ws) (rw (w .size) r)
+
 -- ---- a loop that copies a list
 module _ (xs s : List ℕ) where
   pub record Copied (i : ℕ) (out : List ℕ) : Type 0 where

@@ -1,0 +1,4 @@
+-- The laws that the other crates cite.
+pub mod Laws
+pub mod Reading
+pub mod Rules

@@ -1,0 +1,28 @@
+-- What `search` is handed at the needs of this crate. Assumes nothing.
+use Rattle.lists.proofs.Loops.{loops}
+use Rattle.decimal.proofs.Reading.{digit-low, digit-high, digit-is, over-bound, goes, parse-empty, parse-start, parse-not, parse-more, parse-fits, parse-stop, parse-done, counting-start, counting-more, counting-small, counting-done, put-some, put-one, put-behind, put-more, tens-room}
+
+pub ruleset rules = (
+  digit-low,
+  digit-high,
+  digit-is,
+  over-bound,
+  goes,
+  parse-empty,
+  parse-start,
+  parse-not,
+  parse-more,
+  parse-fits,
+  parse-stop,
+  parse-done,
+  counting-start,
+  counting-more,
+  counting-small,
+  counting-done,
+  put-some,
+  put-one,
+  put-behind,
+  put-more,
+  tens-room,
+  loops,
+)

@@ -1,0 +1,7 @@
+-- `decimal::digit_of` meets its contract. Assumes nothing.
+use Rattle.decimal.proofs.Rules.{rules}
+use Rattle.decimal.proofs.digit_of.Statement.{statement}
+use Rattle.decimal.proofs.digit_of.Tie as tie
+
+pub digit-of-spec : {M : Type 1} → statement M
+digit-of-spec = tie.close (tie.spec (λ c. search rules) (λ c. search rules) (λ c. search rules) (λ c. search rules))

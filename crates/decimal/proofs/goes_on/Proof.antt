@@ -1,0 +1,7 @@
+-- `decimal::goes_on` meets its contract. Assumes nothing.
+use Rattle.decimal.proofs.Rules.{rules}
+use Rattle.decimal.proofs.goes_on.Statement.{statement}
+use Rattle.decimal.proofs.goes_on.Tie as tie
+
+pub goes-on-spec : {M : Type 1} → statement M
+goes-on-spec = tie.close (tie.spec (λ c. search rules) (λ c. search rules))

@@ -1,0 +1,2 @@
+-- What is said of decimal numbers; the laws stand in proofs/.
+pub mod Decimal

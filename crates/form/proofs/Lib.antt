@@ -1,0 +1,4 @@
+-- The laws of the tests' loops.
+pub mod Items
+pub mod ItemRules
+pub mod TestRules

@@ -1,0 +1,25 @@
+-- `form::has_foreign` meets its contract. Assumes nothing.
+use Prim.Native.Nat.{_-_}
+use lib.ListN.{length}
+use Rattle.lists.proofs.Loops.{Scanned}
+use Rattle.text.specs.Refusals.{isForeign, hasForeign}
+use Rattle.form.proofs.ItemRules.{rules}
+use Rattle.form.proofs.has_foreign.Statement.{statement}
+use Rattle.form.proofs.has_foreign.Tie as tie
+
+abbrev Inv-loop : tie.InvT-loop
+Inv-loop text i₀ i = Scanned text isForeign i
+
+abbrev μ-loop : tie.MeasureT-loop
+μ-loop text i₀ i = length text - i
+
+returns : tie.Need-returns Inv-loop μ-loop
+unfolding hasForeign
+returns c = search rules
+
+returns-2 : tie.Need-returns-2 Inv-loop μ-loop
+unfolding hasForeign
+returns-2 c = search rules
+
+pub has-foreign-spec : {M : Type 1} → statement M
+has-foreign-spec = tie.close (tie.spec Inv-loop μ-loop (λ c. search rules) (λ c. search rules) (λ c. search rules) returns (λ c. search rules) (λ c. search rules) (λ c. search rules) returns-2)

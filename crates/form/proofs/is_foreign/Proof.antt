@@ -1,0 +1,12 @@
+-- `form::is_foreign` meets its contract. Assumes nothing.
+use Rattle.text.specs.Refusals.{isForeign}
+use Rattle.form.proofs.ItemRules.{rules}
+use Rattle.form.proofs.is_foreign.Statement.{statement}
+use Rattle.form.proofs.is_foreign.Tie as tie
+
+returns : tie.Need-returns
+unfolding isForeign
+returns c = rw (c .is-plain .ensures)
+
+pub is-foreign-spec : {M : Type 1} → statement M
+is-foreign-spec = tie.close (tie.spec (λ c. search rules) returns)

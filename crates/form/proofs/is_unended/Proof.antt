@@ -1,0 +1,20 @@
+-- `form::is_unended` meets its contract. Assumes nothing.
+use native.Mathlib.Omega.{arith}
+use Rattle.text.specs.Refusals.{unended}
+use Rattle.text.proofs.Tests.{size-some}
+use Rattle.form.proofs.TestRules.{rules}
+use Rattle.form.proofs.is_unended.Statement.{statement}
+use Rattle.form.proofs.is_unended.Tie as tie
+
+sub-result : tie.Need-sub-result
+sub-result c = omega (arith, size-some _ (c .pre))
+
+shared-slice-read-result : tie.Need-shared-slice-read-result
+shared-slice-read-result c = omega (arith, size-some _ (c .before .pre))
+
+returns : tie.Need-returns
+unfolding unended
+returns c = search rules
+
+pub is-unended-spec : {M : Type 1} → statement M
+is-unended-spec = tie.close (tie.spec sub-result shared-slice-read-result returns)

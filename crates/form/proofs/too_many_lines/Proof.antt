@@ -1,0 +1,7 @@
+-- `form::too_many_lines` meets its contract. Assumes nothing.
+use Rattle.form.proofs.TestRules.{rules}
+use Rattle.form.proofs.too_many_lines.Statement.{statement}
+use Rattle.form.proofs.too_many_lines.Tie as tie
+
+pub too-many-lines-spec : {M : Type 1} → statement M
+too-many-lines-spec = tie.close (tie.spec (λ c. search rules) (λ c. search rules))

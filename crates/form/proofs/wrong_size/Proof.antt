@@ -1,0 +1,12 @@
+-- `form::wrong_size` meets its contract. Assumes nothing.
+use Rattle.text.specs.Refusals.{wrongSize}
+use Rattle.form.proofs.TestRules.{rules}
+use Rattle.form.proofs.wrong_size.Statement.{statement}
+use Rattle.form.proofs.wrong_size.Tie as tie
+
+returns : tie.Need-returns
+unfolding wrongSize
+returns c = search rules
+
+pub wrong-size-spec : {M : Type 1} → statement M
+wrong-size-spec = tie.close (tie.spec returns)

@@ -1,0 +1,12 @@
+-- `reader::atom_count` meets its contract. Assumes nothing.
+use native.Mathlib.Omega.{arith}
+use lib.ListN.{length-take}
+use Rattle.reader.proofs.TableRules.{rules}
+use Rattle.reader.proofs.atom_count.Statement.{statement}
+use Rattle.reader.proofs.atom_count.Tie as tie
+
+add-result : tie.Need-add-result
+add-result c = omega (arith, length-take (c .before .before .end-of .result) (c .before .before .before .before .args .text .now))
+
+pub atom-count-spec : {M : Type 1} → statement M
+atom-count-spec = tie.close (tie.spec (λ c. search rules) (λ c. search rules) (λ c. search rules) add-result (λ c. search rules))

@@ -1,0 +1,243 @@
+-- The text of good names and rows is accepted, and an accepted text has such. Assumes nothing.
+use mathlib.Core.Path.{_≡_, refl, sym, ap, _∙_}
+use mathlib.Core.Bool.{Bool, true, false, not, _&&_, _||_, or-true, and-true}
+use mathlib.Core.Logic.{⊎-elim}
+use mathlib.Core.List.{List, [], _∷_, _++_, map, tail}
+use Prim.Native.Nat.{ℕ, _+_, _-_, _*_, _≤_, _<_}
+use native.Mathlib.Omega.{arith}
+use lib.Dec.{eqb, leb, ltb}
+use lib.ListN.{length, getD, length-append, length-map}
+use lib.Seq.{getD-append-add}
+use borrow.Author.Tests.{eqb-true, eqb-false, eq-eqb, ne-eqb, ltb-true, le-leb, le-ltb, not-true, not-false}
+use Rattle.sets.specs.Lists.{every, some}
+use Rattle.sets.proofs.Tests.{dec, clash, both-true, both-false}
+use Rattle.sets.proofs.Lists.{every-append, every-mono}
+use Rattle.lists.specs.Bytes.{same, pieces, ended, join, close, led}
+use Rattle.lists.proofs.Loops.{same-true, same-self}
+use Rattle.lists.proofs.Padding.{every-join}
+use Rattle.decimal.specs.Decimal.{decimal}
+use Rattle.decimal.proofs.Laws.{decimal-every, decimal-injective}
+use Rattle.program.specs.Names.{isPlain, isName}
+use Rattle.program.specs.Refusals.{lowest}
+use Rattle.text.specs.Lines.{names, clauseLines, valueOf, row}
+use Rattle.text.specs.Render.{bookText}
+use Rattle.text.specs.Refusals.{wrongSize, unended, isForeign, hasForeign, tooManyLines, namesBroken, namesEqual, isValue, lineHolds, clauseBroken, isZero, onlyZeros, refusal}
+use Rattle.text.proofs.Values.{isRow, isSmall, plainLine, text-value, value-short, value-back, zero-text}
+use Rattle.text.proofs.Names.{name-parts, name-short}
+use Rattle.text.proofs.Fits.{clear, fit}
+use Rattle.text.proofs.Books.{text-of, lines-are, names-again, clause-lines-again, row-long, row-small, row-items, rows-ruled}
+use Rattle.text.proofs.Tables.{Good}
+
+-- ---- 1: the size
+led-names : (ns : List (List ℕ)) → every isName ns ≡ true → length (led 32 ns) ≤ 9 * length ns
+unfolding every led
+led-names [] h = omega arith
+led-names (x ∷ ns) h =
+    let a = both-true (isName x) (every isName ns) h in
+    omega (arith, length-append x (led 32 ns), name-short x (a .0), led-names ns (a .1))
+
+join-names : (ns : List (List ℕ)) → every isName ns ≡ true → length (join 32 ns) ≤ 9 * length ns
+unfolding every join
+join-names [] h = omega arith
+join-names (x ∷ ns) h =
+    let a = both-true (isName x) (every isName ns) h in
+    omega (arith, length-append x (led 32 ns), name-short x (a .0), led-names ns (a .1))
+
+led-values : (vs : List ℕ) → every isSmall vs ≡ true → length (led 32 (map decimal vs)) ≤ 3 * length vs
+unfolding every led
+led-values [] h = omega arith
+led-values (v ∷ vs) h =
+    let a = both-true (ltb v 64) (every isSmall vs) h in
+    omega (arith, length-append (decimal v) (led 32 (map decimal vs)), value-short v (ltb-true v 64 (a .0)), led-values vs (a .1))
+
+line-short : (vs : List ℕ) → every isSmall vs ≡ true → length (plainLine vs) ≤ 3 * length vs
+unfolding every plainLine join
+line-short [] h = omega arith
+line-short (v ∷ vs) h =
+    let a = both-true (ltb v 64) (every isSmall vs) h in
+    omega (arith, length-append (decimal v) (led 32 (map decimal vs)), value-short v (ltb-true v 64 (a .0)), led-values vs (a .1))
+
+lines-short : (n : ℕ) (vss : List (List ℕ)) → n ≤ 12 → every (isRow n) vss ≡ true → length (close 10 (map plainLine vss)) ≤ 37 * length vss
+unfolding every close
+lines-short n [] l h = omega arith
+lines-short n (r ∷ vss) l h =
+    let a = both-true (isRow n r) (every (isRow n) vss) h in
+    omega (arith, length-append (plainLine r) (10 ∷ close 10 (map plainLine vss)), line-short r (row-small n r (a .0)), row-long n r (a .0), lines-short n vss l (a .1))
+
+module _ (ns vss : List (List ℕ)) (g : Good ns vss) where
+  -- no more than 12 * 9 + 1 + 64 * 37 bytes
+  pub text-short : length (bookText ns vss) ≤ 2477
+  unfolding close
+  text-short =
+      let s = g .short in
+      let f = g .few in
+      omega (arith, ap length (text-of ns vss), length-append (join 32 ns) (10 ∷ close 10 (map plainLine vss)), join-names ns (g .named), lines-short (length ns) vss (g .few) (g .ruled))
+
+  text-some : 1 ≤ length (bookText ns vss)
+  unfolding close
+  text-some = omega (arith, ap length (text-of ns vss), length-append (join 32 ns) (10 ∷ close 10 (map plainLine vss)))
+
+  test1 : wrongSize (bookText ns vss) ≡ false
+  unfolding wrongSize
+  test1 = rw (ne-eqb (length (bookText ns vss)) 0 (λ e. omega (arith, text-some)), le-ltb 4096 (length (bookText ns vss)) (omega (arith, text-short)))
+
+-- ---- 2: the last byte
+last-append : (xs ys : List ℕ) → 1 ≤ length ys → getD (xs ++ ys) (length (xs ++ ys) - 1) 0 ≡ getD ys (length ys - 1) 0
+last-append xs ys h =
+    let e : length (xs ++ ys) - 1 ≡ length xs + (length ys - 1) = omega (arith, length-append xs ys) in
+    ap (λ (n : ℕ). getD (xs ++ ys) n 0) e ∙ getD-append-add xs ys (length ys - 1) 0
+
+close-some : (p : List ℕ) (ps : List (List ℕ)) → 1 ≤ length (close 10 (p ∷ ps))
+unfolding close
+close-some p ps = omega (arith, length-append p (10 ∷ close 10 ps))
+
+close-last : (p : List ℕ) (ps : List (List ℕ)) → getD (close 10 (p ∷ ps)) (length (close 10 (p ∷ ps)) - 1) 0 ≡ 10
+unfolding close
+close-last p [] = last-append p (10 ∷ []) (omega arith)
+close-last p (q ∷ qs) =
+    last-append p (10 ∷ close 10 (q ∷ qs)) (omega arith)
+    ∙ last-append (10 ∷ []) (close 10 (q ∷ qs)) (close-some q qs)
+    ∙ close-last q qs
+
+test2 : (ns vss : List (List ℕ)) → unended (bookText ns vss) ≡ false
+unfolding unended
+test2 ns vss = rw (eq-eqb _ 10 (ap (λ (t : List ℕ). getD t (length t - 1) 0) (text-of ns vss) ∙ close-last (join 32 ns) (map plainLine vss)))
+
+-- ---- 3: every byte is the book's own
+unfoldable own : ℕ → Bool
+own x = not (isForeign x)
+
+plain-own : (x : ℕ) → isPlain x ≡ true → own x ≡ true
+unfolding own isForeign
+plain-own x h = ap (λ (t : Bool). not (not (t || eqb x 32 || eqb x 10))) h
+
+digit-own : (d : ℕ) → d < 10 → own (48 + d) ≡ true
+digit-own d h = plain-own (48 + d) (rw (le-leb 48 (48 + d) (omega arith), le-leb (48 + d) 57 (omega arith), or-true))
+
+none-foreign : (xs : List ℕ) → every own xs ≡ true → some isForeign xs ≡ false
+unfolding every some own
+none-foreign [] h = refl
+none-foreign (x ∷ xs) h = let a = both-true (not (isForeign x)) (every own xs) h in rw (not-true (isForeign x) (a .0), none-foreign xs (a .1))
+
+decimals-own : (vs : List ℕ) → every (every own) (map decimal vs) ≡ true
+unfolding every
+decimals-own [] = refl
+decimals-own (v ∷ vs) = rw (decimal-every own digit-own v, decimals-own vs)
+
+own-space : own 32 ≡ true
+unfolding own isForeign
+own-space = refl
+
+own-end : own 10 ≡ true
+unfolding own isForeign
+own-end = refl
+
+close-own : (vss : List (List ℕ)) → every own (close 10 (map plainLine vss)) ≡ true
+unfolding every close plainLine
+close-own [] = refl
+close-own (r ∷ vss) =
+    every-append own (join 32 (map decimal r)) (10 ∷ close 10 (map plainLine vss))
+    (every-join own 32 own-space (map decimal r) (decimals-own r))
+    (rw (own-end, close-own vss))
+
+test3 : (ns vss : List (List ℕ)) → every isName ns ≡ true → hasForeign (bookText ns vss) ≡ false
+unfolding hasForeign close every
+test3 ns vss h = ap (some isForeign) (text-of ns vss) ∙ none-foreign _ (every-append own (join 32 ns) (10 ∷ close 10 (map plainLine vss))
+    (every-join own 32 own-space ns (every-mono isName (every own) (λ x k. every-mono isPlain own plain-own x (name-parts x k .plain)) ns h))
+    (rw (own-end, close-own vss)))
+
+-- ---- 4 to 8
+all-valued : (vs : List ℕ) → every isSmall vs ≡ true → every isValue (map decimal vs) ≡ true
+unfolding every
+all-valued [] h = refl
+all-valued (v ∷ vs) h =
+    let a = both-true (ltb v 64) (every isSmall vs) h in
+    rw (text-value v (ltb-true v 64 (a .0)), all-valued vs (a .1))
+
+all-hold : (n : ℕ) (vss : List (List ℕ)) → 1 ≤ n → every (isRow n) vss ≡ true → every (lineHolds n) (map plainLine vss) ≡ true
+unfolding every lineHolds
+all-hold n [] l h = refl
+all-hold n (r ∷ vss) l h =
+    let a = both-true (isRow n r) (every (isRow n) vss) h in
+    let i = row-items n r l (a .0) in
+    let e : length (map decimal r) ≡ n = length-map r decimal ∙ row-long n r (a .0) in
+    rw (i, eq-eqb (length (map decimal r)) n e, all-valued r (row-small n r (a .0)), all-hold n vss l (a .1))
+
+zero-is : (v : ℕ) → isZero (decimal v) ≡ eqb 0 v
+unfolding isZero
+zero-is v = ⊎-elim
+    (λ q. let e = eqb-true 0 v q in ap (λ (x : ℕ). same (48 ∷ []) (decimal x)) (sym e) ∙ ap (same (48 ∷ [])) zero-text ∙ same-self (48 ∷ []) ∙ sym q)
+    (λ q. ⊎-elim
+    (λ t. absurd (eqb-false 0 v q (decimal-injective 0 v (zero-text ∙ same-true (48 ∷ []) (decimal v) t)))) (λ t. t ∙ sym q) (dec (same (48 ∷ []) (decimal v))))
+    (dec (eqb 0 v))
+
+zeros-are : (vs : List ℕ) → every isZero (map decimal vs) ≡ every (eqb 0) vs
+unfolding every
+zeros-are [] = refl
+zeros-are (v ∷ vs) = rw (zero-is v, zeros-are vs)
+
+none-zeros : (n : ℕ) (vss : List (List ℕ)) → 1 ≤ n → every (isRow n) vss ≡ true → some (λ l. every isZero (pieces 32 l)) (map plainLine vss) ≡ some (every (eqb 0)) vss
+unfolding every some
+none-zeros n [] l h = refl
+none-zeros n (r ∷ vss) l h =
+    let a = both-true (isRow n r) (every (isRow n) vss) h in
+    rw (row-items n r l (a .0), zeros-are r, none-zeros n vss l (a .1))
+
+-- the text of good names and rows is accepted
+pub accept-text : (ns vss : List (List ℕ)) → Good ns vss → refusal (bookText ns vss) ≡ 0
+unfolding refusal lowest tooManyLines namesBroken namesEqual clauseBroken onlyZeros
+accept-text ns vss g =
+    let ls = lines-are ns vss (g .named) in
+    let c : length (ended 10 (bookText ns vss)) ≤ 65 = omega (arith, ap length ls, length-map vss plainLine, g .short) in
+    rw (
+      test1 ns vss g,
+      test2 ns vss,
+      test3 ns vss (g .named),
+      le-ltb 65 (length (ended 10 (bookText ns vss))) c,
+      names-again ns vss (g .any) (g .named),
+      le-leb 1 (length ns) (g .any),
+      le-leb (length ns) 12 (g .few),
+      g .named,
+      g .apart,
+      clause-lines-again ns vss (g .named),
+      all-hold (length ns) vss (g .any) (g .ruled),
+      none-zeros (length ns) vss (g .any) (g .ruled),
+      g .told,
+    )
+
+-- ---- an accepted text has good names and rows
+zeros-values : (ls : List (List ℕ)) → every (eqb 0) (map valueOf ls) ≡ true → every isZero ls ≡ true
+unfolding every isZero
+zeros-values [] h = refl
+zeros-values (l ∷ ls) h =
+    let a = both-true (eqb 0 (valueOf l)) (every (eqb 0) (map valueOf ls)) h in
+    let z : valueOf l ≡ 0 = sym (eqb-true 0 (valueOf l) (a .0)) in
+    let e : 48 ∷ [] ≡ l = sym zero-text ∙ ap decimal (sym z) ∙ value-back l (omega arith) in
+    rw (ap (same (48 ∷ [])) (sym e) ∙ same-self (48 ∷ []), zeros-values ls (a .1))
+
+told-lines : (ls : List (List ℕ)) → some (λ l. every isZero (pieces 32 l)) ls ≡ false → some (every (eqb 0)) (map row ls) ≡ false
+unfolding some row
+told-lines [] h = refl
+told-lines (l ∷ ls) h =
+    let a = both-false (every isZero (pieces 32 l)) (some (λ x. every isZero (pieces 32 x)) ls) h in
+    let z : every (eqb 0) (map valueOf (pieces 32 l)) ≡ false = ⊎-elim
+    (λ t. clash (every isZero (pieces 32 l)) (zeros-values (pieces 32 l) t) (a .0)) (λ f. f) (dec (every (eqb 0) (map valueOf (pieces 32 l)))) in
+    rw (z, told-lines ls (a .1))
+
+tail-long : (ls : List (List ℕ)) → length ls ≤ 65 → length (tail ls) ≤ 64
+tail-long [] h = omega arith
+tail-long (l ∷ ls) h = omega arith
+
+pub good-read : (b : List ℕ) → refusal b ≡ 0 → Good (names b) (map row (clauseLines b))
+unfolding clauseLines onlyZeros
+good-read b h =
+    let f = fit b h in
+    record {
+      any = f .any;
+      few = f .few;
+      named = f .named;
+      apart = f .apart;
+      short = omega (arith, length-map (tail (ended 10 b)) row, tail-long (ended 10 b) (f .many));
+      ruled = rows-ruled (length (names b)) (clauseLines b) (f .whole);
+      told = told-lines (clauseLines b) (clear b h .t8);
+    }

@@ -1,0 +1,9 @@
+-- The laws that the other crates cite; RoundTrip has the theorems.
+pub mod Values
+pub mod Names
+pub mod Tests
+pub mod Fits
+pub mod Books
+pub mod Tables
+pub mod Accepts
+pub mod RoundTrip

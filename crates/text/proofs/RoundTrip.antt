@@ -1,0 +1,97 @@
+-- The round trip, both ways: what is read is what is written. Assumes nothing.
+use mathlib.Core.Path.{_≡_, refl, sym, ap, ap₂, _∙_}
+use mathlib.Core.Bool.{true, false}
+use mathlib.Core.Logic.{_↔_, ⊎-elim}
+use mathlib.Core.List.{List, map}
+use Prim.Native.Nat.{ℕ}
+use lib.Dec.{eqb}
+use borrow.Author.Tests.{eq-eqb, ne-eqb, eqb-true, eqb-false}
+use Rattle.sets.proofs.Tests.{dec}
+use Rattle.program.specs.declared.Program.{Program}
+use Rattle.program.specs.Names.{namesOf}
+use Rattle.program.specs.Valid.{valid, Sized}
+use Rattle.text.specs.declared.Verdict.the-variants.{Accepted}
+use Rattle.text.specs.Lines.{names, clauseLines, row}
+use Rattle.text.specs.Tables.{tableOf}
+use Rattle.text.specs.Render.{bookText, valuesOf, render}
+use Rattle.text.specs.Refusals.{refusal}
+use Rattle.text.specs.Reading.{refusedBy, programOf, readOf, IsAccepted}
+use Rattle.text.proofs.Books.{text-back, names-again, rows-again}
+use Rattle.text.proofs.Tables.{Good, names-of-table, values-of-table, table-back, good-table, valid-with, sized-with}
+use Rattle.text.proofs.Accepts.{accept-text, good-read}
+
+-- ---- the verdict is the refusal's number, and an accepted text comes with its table
+pub refused-by : (b : List ℕ) → refusedBy (readOf b .verdict) ≡ refusal b
+unfolding readOf
+refused-by b = ⊎-elim
+    (λ t. rw t (sym (eqb-true (refusal b) 0 t)))
+    (λ f. rw f)
+    (dec (eqb (refusal b) 0))
+
+cleared : (b : List ℕ) → IsAccepted b → refusal b ≡ 0
+cleared b a = sym (refused-by b) ∙ a
+
+taken : (b : List ℕ) → refusal b ≡ 0 → readOf b ≡ record { verdict = Accepted; program = programOf b }
+unfolding readOf
+taken b z = rw (eq-eqb (refusal b) 0 z)
+
+accepted : (b : List ℕ) → refusal b ≡ 0 → IsAccepted b
+accepted b z = refused-by b ∙ z
+
+program-is : (b : List ℕ) → refusal b ≡ 0 → readOf b .program ≡ programOf b
+program-is b z = ap (λ r. r .program) (taken b z)
+
+-- ---- the steps
+render-read : (b : List ℕ) → refusal b ≡ 0 → render (programOf b) ≡ b
+unfolding render programOf
+render-read b z =
+    let g = good-read b z in
+    ap₂ bookText (names-of-table (names b) (map row (clauseLines b)) (g .named)) (values-of-table (names b) (map row (clauseLines b)) (g .ruled))
+    ∙ text-back b z
+
+accept-render : (p : Program) → Sized p → valid p ≡ true → refusal (render p) ≡ 0
+unfolding render
+accept-render p s v = accept-text (namesOf p) (valuesOf p) (good-table p s v)
+
+read-render : (p : Program) → Sized p → valid p ≡ true → programOf (render p) ≡ p
+unfolding programOf render
+read-render p s v =
+    let g = good-table p s v in
+    ap₂ tableOf (names-again (namesOf p) (valuesOf p) (g .any) (g .named)) (rows-again _ (namesOf p) (valuesOf p) (g .any) (g .named) (g .ruled))
+    ∙ table-back p s v
+
+valid-read : (b : List ℕ) → refusal b ≡ 0 → valid (programOf b) ≡ true
+unfolding programOf
+valid-read b z = valid-with (names b) (map row (clauseLines b)) (good-read b z)
+
+sized-read : (b : List ℕ) → refusal b ≡ 0 → Sized (programOf b)
+unfolding programOf
+sized-read b z = sized-with (names b) (map row (clauseLines b)) (good-read b z)
+
+-- ==== the theorems
+
+-- An accepted text is the text of the program that it is read as, byte for byte.
+pub written-back : (b : List ℕ) → IsAccepted b → render (readOf b .program) ≡ b
+written-back b a = let z = cleared b a in ap render (program-is b z) ∙ render-read b z
+
+-- The text of a valid program is accepted, and is read as just that program.
+pub read-back : (p : Program) → Sized p → valid p ≡ true → readOf (render p) ≡ record { verdict = Accepted; program = p }
+read-back p s v = taken (render p) (accept-render p s v) ∙ ap (λ q. record { verdict = Accepted; program = q }) (read-render p s v)
+
+-- A text is accepted exactly when it is the text of some valid program.
+pub accepted-exactly : (b : List ℕ) → IsAccepted b ↔ ((p : Program) × Sized p × (valid p ≡ true) × (render p ≡ b))
+accepted-exactly b = (
+  λ a. let z = cleared b a in (programOf b, sized-read b z, valid-read b z, render-read b z),
+  λ w. accepted b (ap refusal (sym (w .3)) ∙ accept-render (w .0) (w .1) (w .2)),
+)
+
+-- A table is valid exactly when the reader can give it.
+pub valid-exactly : (p : Program) → Sized p → (valid p ≡ true) ↔ ((b : List ℕ) × IsAccepted b × (readOf b .program ≡ p))
+valid-exactly p s = (
+  λ v. let z = accept-render p s v in (render p, accepted (render p) z, program-is (render p) z ∙ read-render p s v),
+  λ w. let z = cleared (w .0) (w .1) in ap valid (sym (w .2) ∙ program-is (w .0) z) ∙ valid-read (w .0) z,
+)
+
+-- Two texts that are read as the same program are equal.
+pub read-one-to-one : (b c : List ℕ) → IsAccepted b → IsAccepted c → readOf b .program ≡ readOf c .program → b ≡ c
+read-one-to-one b c a d e = sym (written-back b a) ∙ ap render e ∙ written-back c d

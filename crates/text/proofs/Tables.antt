@@ -1,0 +1,491 @@
+-- Tables to names and rows, and back. Assumes nothing.
+use mathlib.Core.Path.{_≡_, refl, sym, ap, ap₂, _∙_}
+use mathlib.Core.Bool.{Bool, true, false, cond, not, _&&_, _||_}
+use mathlib.Core.Logic.{⊎-elim}
+use mathlib.Core.List.{List, [], _∷_, _++_, map, flatMap, append-assoc}
+use Prim.Native.Nat.{ℕ, zero, suc, _+_, _-_, _*_, _/_, _%_, _^_, _≤_, _<_}
+use native.Mathlib.Nat.{add-zero, zero-add, zero-div, div-div-eq-div-mul, pow-suc}
+use native.Mathlib.Numerals.{add-one}
+use native.Mathlib.Omega.{arith}
+use lib.Dec.{eqb, leb, ltb}
+use lib.ListN.{length, getD, take, drop, replicate, length-append, length-drop, length-map, List·getD-map}
+use lib.Seq.{length-take-le, take-at, drop-at, take-add, drop-drop, drop-cons, getD-drop, drop-append-seam}
+use borrow.Author.Tests.{eqb-true, eq-eqb, ltb-true, lt-ltb, le-leb}
+use Rattle.sets.specs.Lists.{every, some, upFrom, tabulate}
+use Rattle.sets.proofs.Tests.{dec, clash, both-true, both-false}
+use Rattle.sets.proofs.Lists.{length-upFrom, map-upFrom}
+use Rattle.lists.specs.Bytes.{index, same, distinct, padded}
+use Rattle.lists.proofs.Loops.{same-true, same-self}
+use Rattle.lists.proofs.Pieces.{index-le}
+use Rattle.lists.proofs.Padding.{padded-long, padded-back, padded-tail, zeros-are, zeros-pass}
+use Rattle.program.specs.declared.Program.{Program}
+use Rattle.program.specs.Clauses.{Clause, clauseOf, clauseAt, rowsOf, rows}
+use Rattle.program.specs.Names.{isName, place, nameAt, namesOf}
+use Rattle.program.specs.Values.{isWord, valueIn, clauseValue, clauseValues}
+use Rattle.program.specs.Valid.{zeroFrom, isPlace, namesValid, isClause, clausesValid, valid, Sized}
+use Rattle.program.proofs.Places.{place-long}
+use Rattle.program.proofs.Validity.{valid-names, valid-clauses, clause-below}
+use Rattle.text.specs.Tables.{wordOf, bitsOf, wordBy, placed, tableOf}
+use Rattle.text.specs.Render.{valuesOf}
+use Rattle.text.proofs.Values.{isSmall, isRow}
+use Rattle.text.proofs.Names.{name-short, placed-long, index-name, trim}
+use Rattle.text.proofs.Books.{row-long, row-small}
+
+-- names and rows as a book has them
+pub record Good (ns vss : List (List ℕ)) : Type 0 where
+  pub any : 1 ≤ length ns
+  pub few : length ns ≤ 12
+  pub named : every isName ns ≡ true
+  pub apart : distinct ns ≡ true
+  pub short : length vss ≤ 64
+  pub ruled : every (isRow (length ns)) vss ≡ true
+  pub told : some (every (eqb 0)) vss ≡ false
+
+cond-true : (a b : Bool) → cond a false b ≡ true → (a ≡ false) × (b ≡ true)
+cond-true true b h = clash false h refl
+cond-true false b h = (refl, h)
+
+-- ---- the names of a table
+names-up : (Y zs : List ℕ) (ns : List (List ℕ)) (i : ℕ) → every isName ns ≡ true → drop (8 * i) Y ≡ placed ns ++ zs → upFrom (place Y) (length ns) i ≡ map (padded 8) ns
+unfolding upFrom every placed flatMap place
+names-up Y zs [] i h e = refl
+names-up Y zs (x ∷ ns) i h e =
+    let a = both-true (isName x) (every isName ns) h in
+    let P = padded 8 x in
+    let F = placed ns in
+    let l : length P ≡ 8 = padded-long 8 x (name-short x (a .0)) in
+    let e′ : drop (8 * i) Y ≡ P ++ (F ++ zs) = e ∙ append-assoc P F zs in
+    let q : 8 * i + 8 ≡ 8 * suc i = omega arith in
+    let d : drop (8 * suc i) Y ≡ F ++ zs = ap (λ (n : ℕ). drop n Y) (sym q) ∙ sym (drop-drop 8 (8 * i) Y) ∙ ap (drop 8) e′ ∙ drop-at P (F ++ zs) 8 l in
+    ap₂ (λ (y : List ℕ) (ys : List (List ℕ)). y ∷ ys) (ap (take 8) e′ ∙ take-at P (F ++ zs) 8 l) (names-up Y zs ns (suc i) (a .1) d)
+
+abbrev named : List ℕ → List ℕ
+named P = take (index 0 P) P
+
+-- the places of a table of names, and the names in them
+places-of : (ns : List (List ℕ)) → every isName ns ≡ true → tabulate (place (padded 96 (placed ns))) (length ns) ≡ map (padded 8) ns
+unfolding padded tabulate
+places-of ns h = names-up _ (replicate (96 - length (placed ns)) 0) ns 0 h refl
+
+trims : (ns : List (List ℕ)) → every isName ns ≡ true → map named (map (padded 8) ns) ≡ ns
+unfolding every
+trims [] h = refl
+trims (x ∷ ns) h =
+    let a = both-true (isName x) (every isName ns) h in
+    ap₂ (λ (y : List ℕ) (ys : List (List ℕ)). y ∷ ys) (trim x (a .0)) (trims ns (a .1))
+
+names-are-named : (Y : List ℕ) (k i : ℕ) → upFrom (nameAt Y) k i ≡ map named (upFrom (place Y) k i)
+unfolding nameAt
+names-are-named Y k i = sym (map-upFrom named (place Y) k i)
+
+pub names-of-table : (ns vss : List (List ℕ)) → every isName ns ≡ true → namesOf (tableOf ns vss) ≡ ns
+unfolding namesOf tableOf tabulate
+names-of-table ns vss h = names-are-named (padded 96 (placed ns)) (length ns) 0 ∙ ap (map named) (places-of ns h) ∙ trims ns h
+
+-- ---- the rows of a table
+pub bits-suc : (w i : ℕ) → valueIn w (suc i) ≡ valueIn (w / 4) i
+unfolding valueIn
+bits-suc w i =
+    let q : 2 * suc i ≡ suc (suc (2 * i)) = omega arith in
+    let p : 2 ^ (2 * suc i) ≡ 4 * 2 ^ (2 * i) = ap (λ (n : ℕ). 2 ^ n) q ∙ omega (arith, pow-suc 2 (suc (2 * i)), pow-suc 2 (2 * i)) in
+    ap (λ (n : ℕ). w / n % 4) p ∙ ap (λ (n : ℕ). n % 4) (sym (div-div-eq-div-mul w 4 (2 ^ (2 * i))))
+
+word-in : (ds : List ℕ) (i : ℕ) → every (λ d. ltb d 4) ds ≡ true → valueIn (wordOf ds) i ≡ getD ds i 0
+unfolding wordOf every valueIn
+word-in [] i h = ap (λ (n : ℕ). n % 4) (zero-div (2 ^ (2 * i)))
+word-in (d ∷ ds) zero h = let a = both-true (ltb d 4) (every (λ e. ltb e 4) ds) h in omega (arith, ltb-true d 4 (a .0))
+word-in (d ∷ ds) (suc i) h =
+    let a = both-true (ltb d 4) (every (λ e. ltb e 4) ds) h in
+    let q : (d + 4 * wordOf ds) / 4 ≡ wordOf ds = omega (arith, ltb-true d 4 (a .0)) in
+    bits-suc (d + 4 * wordOf ds) i ∙ ap (λ (w : ℕ). valueIn w i) q ∙ word-in ds i (a .1)
+
+small-bits : (k : ℕ) (vs : List ℕ) → every (λ d. ltb d 4) (map (bitsOf k) vs) ≡ true
+unfolding every bitsOf
+small-bits k [] = refl
+small-bits k (v ∷ vs) = rw (lt-ltb (v / k % 4) 4 (omega arith), small-bits k vs)
+
+word-at : (k : ℕ) (vs : List ℕ) (i : ℕ) → bitsOf k 0 ≡ 0 → valueIn (wordBy k vs) i ≡ bitsOf k (getD vs i 0)
+unfolding wordBy
+word-at k vs i z =
+    word-in (map (bitsOf k) vs) i (small-bits k vs)
+    ∙ ap (getD (map (bitsOf k) vs) i) (sym z) ∙ List·getD-map (bitsOf k) vs i 0
+
+small-at : (vs : List ℕ) (i : ℕ) → every isSmall vs ≡ true → getD vs i 0 < 64
+unfolding every
+small-at [] i h = omega arith
+small-at (v ∷ vs) zero h = ltb-true v 64 (both-true (ltb v 64) (every isSmall vs) h .0)
+small-at (v ∷ vs) (suc i) h = small-at vs i (both-true (ltb v 64) (every isSmall vs) h .1)
+
+-- the clause of a row
+abbrev clauseFrom : List ℕ → Clause
+clauseFrom vs = clauseOf (wordBy 1 vs) (wordBy 4 vs) (wordBy 16 vs)
+
+value-is : (vs : List ℕ) (i : ℕ) → every isSmall vs ≡ true → clauseValue (clauseFrom vs) i ≡ getD vs i 0
+unfolding clauseValue bitsOf
+value-is vs i h = omega (arith, word-at 1 vs i refl, word-at 4 vs i refl, word-at 16 vs i refl, small-at vs i h)
+
+up-is : (f : ℕ → ℕ) (vs : List ℕ) (i : ℕ) → ((j : ℕ) → f (i + j) ≡ getD vs j 0) → upFrom f (length vs) i ≡ vs
+unfolding upFrom
+up-is f [] i h = refl
+up-is f (v ∷ vs) i h = ap₂ (λ (x : ℕ) (xs : List ℕ). x ∷ xs) (ap f (sym (add-zero i)) ∙ h 0)
+    (up-is f vs (suc i) (λ j. let e : suc i + j ≡ i + suc j = omega arith in ap f e ∙ h (suc j)))
+
+values-of : (n : ℕ) (vs : List ℕ) → isRow n vs ≡ true → clauseValues n (clauseFrom vs) ≡ vs
+unfolding clauseValues tabulate
+values-of n vs h =
+    ap (λ (m : ℕ). upFrom (clauseValue (clauseFrom vs)) m 0) (sym (row-long n vs h))
+    ∙ up-is (clauseValue (clauseFrom vs)) vs 0 (λ j. ap (clauseValue (clauseFrom vs)) (zero-add j) ∙ value-is vs j (row-small n vs h))
+
+first-of : (H : List ℕ) (w : ℕ) (r : List ℕ) (i : ℕ) → drop i H ≡ w ∷ r → getD H i 0 ≡ w
+first-of H w r i e = ap (λ (n : ℕ). getD H n 0) (sym (add-zero i)) ∙ sym (getD-drop i H 0 0) ∙ ap (λ (l : List ℕ). getD l 0 0) e
+
+rest-of : (H : List ℕ) (w : ℕ) (r : List ℕ) (i : ℕ) → drop i H ≡ w ∷ r → drop (suc i) H ≡ r
+rest-of H w r i e = ap (λ (n : ℕ). drop n H) (sym (add-one i)) ∙ sym (drop-drop 1 i H) ∙ ap (drop 1) e
+
+-- the clauses that a table of rows has
+clauses-up : (H B F x y z : List ℕ) (vss : List (List ℕ)) (i : ℕ)
+    → drop i H ≡ map (wordBy 1) vss ++ x → drop i B ≡ map (wordBy 4) vss ++ y → drop i F ≡ map (wordBy 16) vss ++ z
+    → upFrom (clauseAt H B F) (length vss) i ≡ map clauseFrom vss
+unfolding upFrom
+clauses-up H B F x y z [] i a b c = refl
+clauses-up H B F x y z (r ∷ vss) i a b c =
+    ap₂ (λ (l : Clause) (ls : List Clause). l ∷ ls)
+    (rw (first-of H _ _ i a, first-of B _ _ i b, first-of F _ _ i c))
+    (clauses-up H B F x y z vss (suc i) (rest-of H _ _ i a) (rest-of B _ _ i b) (rest-of F _ _ i c))
+
+clauses-of : (vss : List (List ℕ)) → rowsOf (padded 64 (map (wordBy 1) vss)) (padded 64 (map (wordBy 4) vss)) (padded 64 (map (wordBy 16) vss)) (length vss) ≡ map clauseFrom vss
+unfolding padded rowsOf tabulate
+clauses-of vss = clauses-up _ _ _ _ _ _ vss 0 refl refl refl
+
+all-values : (n : ℕ) (vss : List (List ℕ)) → every (isRow n) vss ≡ true → map (clauseValues n) (map clauseFrom vss) ≡ vss
+unfolding every
+all-values n [] h = refl
+all-values n (r ∷ vss) h =
+    let a = both-true (isRow n r) (every (isRow n) vss) h in
+    ap₂ (λ (l : List ℕ) (ls : List (List ℕ)). l ∷ ls) (values-of n r (a .0)) (all-values n vss (a .1))
+
+pub values-of-table : (ns vss : List (List ℕ)) → every (isRow (length ns)) vss ≡ true → valuesOf (tableOf ns vss) ≡ vss
+unfolding valuesOf rows tableOf
+values-of-table ns vss h = ap (map (clauseValues (length ns))) (clauses-of vss) ∙ all-values (length ns) vss h
+
+-- ---- a valid table is the table of its names and rows
+place-back : (P : List ℕ) → length P ≡ 8 → isPlace P ≡ true → padded 8 (named P) ≡ P
+unfolding isPlace zeroFrom
+place-back P l h =
+    padded-back 8 (index 0 P) P l (omega (arith, index-le 0 P)) (both-true (isName (named P)) (every (eqb 0) (drop (index 0 P) P)) h .1)
+
+place-named : (P : List ℕ) → isPlace P ≡ true → isName (named P) ≡ true
+unfolding isPlace zeroFrom
+place-named P h = both-true (isName (named P)) (every (eqb 0) (drop (index 0 P) P)) h .0
+
+places-back : (Y : List ℕ) (k i : ℕ) → 8 * (i + k) ≤ length Y → every isPlace (upFrom (place Y) k i) ≡ true
+    → placed (map named (upFrom (place Y) k i)) ≡ take (8 * k) (drop (8 * i) Y)
+unfolding upFrom every placed flatMap place
+places-back Y zero i h v = refl
+places-back Y (suc k) i h v =
+    let P = take 8 (drop (8 * i) Y) in
+    let a = both-true (isPlace P) (every isPlace (upFrom (place Y) k (suc i))) v in
+    let l : length P ≡ 8 = place-long Y i (omega arith) in
+    let q : 8 * suc k ≡ 8 + 8 * k = omega arith in
+    let r : 8 * i + 8 ≡ 8 * suc i = omega arith in
+    ap₂ _++_ (place-back P l (a .0)) (places-back Y k (suc i) (omega arith) (a .1))
+    ∙ ap (λ (n : ℕ). P ++ take (8 * k) (drop n Y)) (sym r) ∙ ap (λ (ys : List ℕ). P ++ take (8 * k) ys) (sym (drop-drop 8 (8 * i) Y))
+    ∙ sym (take-add 8 (8 * k) (drop (8 * i) Y)) ∙ ap (λ (n : ℕ). take n (drop (8 * i) Y)) (sym q)
+
+up-ext : (f g : ℕ → ℕ) (k i j : ℕ) → ((t : ℕ) → f (i + t) ≡ g (j + t)) → upFrom f k i ≡ upFrom g k j
+unfolding upFrom
+up-ext f g zero i j h = refl
+up-ext f g (suc k) i j h = ap₂ (λ (x : ℕ) (xs : List ℕ). x ∷ xs) (ap f (sym (add-zero i)) ∙ h 0 ∙ ap g (add-zero j))
+    (up-ext f g k (suc i) (suc j) (λ t. let p : suc i + t ≡ i + suc t = omega arith in let q : j + suc t ≡ suc j + t = omega arith in ap f p ∙ h (suc t) ∙ ap g q))
+
+word-back : (k w : ℕ) → w < 2 ^ (2 * k) → wordOf (upFrom (valueIn w) k 0) ≡ w
+unfolding upFrom wordOf valueIn
+word-back zero w h = omega arith
+word-back (suc k) w h =
+    let q : 2 * suc k ≡ suc (suc (2 * k)) = omega arith in
+    let p : 2 ^ (2 * suc k) ≡ 4 * 2 ^ (2 * k) = ap (λ (n : ℕ). 2 ^ n) q ∙ omega (arith, pow-suc 2 (suc (2 * k)), pow-suc 2 (2 * k)) in
+    let e : upFrom (valueIn w) k 1 ≡ upFrom (valueIn (w / 4)) k 0 = up-ext (valueIn w) (valueIn (w / 4)) k 1 0
+    (λ t. let s : 1 + t ≡ suc t = omega arith in ap (valueIn w) s ∙ bits-suc w t ∙ ap (valueIn (w / 4)) (sym (zero-add t))) in
+    let r : wordOf (upFrom (valueIn w) k 1) ≡ w / 4 = ap wordOf e ∙ word-back k (w / 4) (omega arith) in
+    omega arith
+
+bits-lt : (w i : ℕ) → valueIn w i < 4
+unfolding valueIn
+bits-lt w i = omega arith
+
+module _ (n : ℕ) (c : Clause) where
+  part-back : (k w : ℕ) → ((t : ℕ) → bitsOf k (clauseValue c t) ≡ valueIn w t) → w < 2 ^ (2 * n) → wordBy k (clauseValues n c) ≡ w
+  unfolding clauseValues tabulate wordBy
+  part-back k w h l =
+      ap wordOf (map-upFrom (bitsOf k) (clauseValue c) n 0
+      ∙ up-ext (λ (t : ℕ). bitsOf k (clauseValue c t)) (valueIn w) n 0 0 (λ t. h (0 + t))) ∙ word-back n w l
+
+  pub head-back : c .head < 2 ^ (2 * n) → wordBy 1 (clauseValues n c) ≡ c .head
+  unfolding clauseValue bitsOf
+  head-back = part-back 1 (c .head) (λ t. omega (arith, bits-lt (c .head) t))
+
+  pub body-back : c .body < 2 ^ (2 * n) → wordBy 4 (clauseValues n c) ≡ c .body
+  unfolding clauseValue bitsOf
+  body-back = part-back 4 (c .body) (λ t. omega (arith, bits-lt (c .head) t, bits-lt (c .body) t))
+
+  pub naf-back : c .naf < 2 ^ (2 * n) → wordBy 16 (clauseValues n c) ≡ c .naf
+  unfolding clauseValue bitsOf
+  naf-back = part-back 16 (c .naf) (λ t. omega (arith, bits-lt (c .head) t, bits-lt (c .body) t, bits-lt (c .naf) t))
+
+columns-back : (k n : ℕ) (sel : Clause → ℕ) → ((c : Clause) → isClause n c ≡ true → wordBy k (clauseValues n c) ≡ sel c)
+    → (cl : ℕ → Clause) (m i : ℕ) → every (isClause n) (upFrom cl m i) ≡ true
+    → map (wordBy k) (map (clauseValues n) (upFrom cl m i)) ≡ upFrom (λ j. sel (cl j)) m i
+unfolding upFrom every
+columns-back k n sel g cl zero i v = refl
+columns-back k n sel g cl (suc m) i v =
+    let a = both-true (isClause n (cl i)) (every (isClause n) (upFrom cl m (suc i))) v in
+    ap₂ (λ (x : ℕ) (xs : List ℕ). x ∷ xs) (g (cl i) (a .0)) (columns-back k n sel g cl m (suc i) (a .1))
+
+up-take : (H : List ℕ) (m i : ℕ) → i + m ≤ length H → upFrom (λ j. getD H j 0) m i ≡ take m (drop i H)
+unfolding upFrom
+up-take H zero i h = refl
+up-take H (suc m) i h =
+    ap (λ (xs : List ℕ). getD H i 0 ∷ xs) (up-take H m (suc i) (omega arith)) ∙ ap (take (suc m)) (sym (drop-cons H i 0 (omega arith)))
+
+column-is : (k n : ℕ) (sel : Clause → ℕ) → ((c : Clause) → isClause n c ≡ true → wordBy k (clauseValues n c) ≡ sel c)
+    → (cl : ℕ → Clause) (H : List ℕ) (m : ℕ) → ((j : ℕ) → sel (cl j) ≡ getD H j 0) → length H ≡ 64 → m ≤ 64 → every (isClause n) (upFrom cl m 0) ≡ true
+    → zeroFrom m H ≡ true → padded 64 (map (wordBy k) (map (clauseValues n) (upFrom cl m 0))) ≡ H
+unfolding zeroFrom
+column-is k n sel g cl H m s l b v z =
+    ap (padded 64) (columns-back k n sel g cl m 0 v ∙ up-ext (λ j. sel (cl j)) (λ j. getD H j 0) m 0 0 (λ t. s (0 + t)) ∙ up-take H m 0 (omega arith))
+    ∙ padded-back 64 m H l b z
+
+module _ (p : Program) (s : Sized p) (v : valid p ≡ true) where
+  names-column : padded 96 (placed (namesOf p)) ≡ p .«atom_names»
+  unfolding namesOf tabulate zeroFrom
+  names-column =
+      let t = valid-names p v in
+      let n = p .«atom_count» in
+      let Y = p .«atom_names» in
+      ap (λ (l : List (List ℕ)). padded 96 (placed l)) (names-are-named Y n 0)
+      ∙ ap (padded 96) (places-back Y n 0 (omega (arith, t .few, s .names)) (t .named))
+      ∙ padded-back 96 (8 * n) Y (s .names) (omega (arith, t .few)) (t .blank)
+
+  -- the table of its names and rows is the table
+  pub table-back : tableOf (namesOf p) (valuesOf p) ≡ p
+  unfolding tableOf namesOf valuesOf rows rowsOf tabulate
+  table-back =
+      let t = valid-clauses p v in
+      let n = p .«atom_count» in
+      let m = p .«clause_count» in
+      let cl = clauseAt (p .heads) (p .bodies) (p .nafs) in
+      let e1 : length (upFrom (nameAt (p .«atom_names»)) n 0) ≡ n = length-upFrom (nameAt (p .«atom_names»)) n 0 in
+      let e3 : length (map (clauseValues n) (upFrom cl m 0)) ≡ m = length-map (upFrom cl m 0) (clauseValues n) ∙ length-upFrom cl m 0 in
+      let e4 : padded 64 (map (wordBy 1) (map (clauseValues n) (upFrom cl m 0))) ≡ p .heads =
+      column-is 1 n (λ c. c .head) (λ c h. head-back n c (clause-below n c h .head)) cl (p .heads) m (λ j. refl) (s .heads) (t .short) (t .ruled) (t .no-heads) in
+      let e5 : padded 64 (map (wordBy 4) (map (clauseValues n) (upFrom cl m 0))) ≡ p .bodies =
+      column-is 4 n (λ c. c .body) (λ c h. body-back n c (clause-below n c h .body)) cl (p .bodies) m (λ j. refl) (s .bodies) (t .short) (t .ruled) (t .no-bodies) in
+      let e6 : padded 64 (map (wordBy 16) (map (clauseValues n) (upFrom cl m 0))) ≡ p .nafs =
+      column-is 16 n (λ c. c .naf) (λ c h. naf-back n c (clause-below n c h .naf)) cl (p .nafs) m (λ j. refl) (s .nafs) (t .short) (t .ruled) (t .no-nafs) in
+      rw (e1, names-column, e3, e4, e5, e6)
+
+-- ---- the names and rows of a valid table are good
+names-good : (ps : List (List ℕ)) → every isPlace ps ≡ true → every isName (map named ps) ≡ true
+unfolding every
+names-good [] h = refl
+names-good (P ∷ ps) h =
+    let a = both-true (isPlace P) (every isPlace ps) h in
+    rw (place-named P (a .0), names-good ps (a .1))
+
+differ : (P Q : List ℕ) → length P ≡ 8 → length Q ≡ 8 → isPlace P ≡ true → isPlace Q ≡ true → same P Q ≡ false → same (named P) (named Q) ≡ false
+differ P Q l m a b h = ⊎-elim
+    (λ t. let e = sym (place-back P l a) ∙ ap (padded 8) (same-true (named P) (named Q) t) ∙ place-back Q m b in
+    clash (same P Q) (ap (same P) (sym e) ∙ same-self P) h)
+    (λ t. t) (dec (same (named P) (named Q)))
+
+none-same : (Y P : List ℕ) (k j : ℕ) → length P ≡ 8 → isPlace P ≡ true → 8 * (j + k) ≤ length Y → every isPlace (upFrom (place Y) k j) ≡ true
+    → some (same P) (upFrom (place Y) k j) ≡ false → some (same (named P)) (map named (upFrom (place Y) k j)) ≡ false
+unfolding upFrom every some
+none-same Y P zero j l a b v h = refl
+none-same Y P (suc k) j l a b v h =
+    let w = both-true (isPlace (place Y j)) (every isPlace (upFrom (place Y) k (suc j))) v in
+    let s = both-false (same P (place Y j)) (some (same P) (upFrom (place Y) k (suc j))) h in
+    rw (differ P (place Y j) l (place-long Y j (omega arith)) a (w .0) (s .0), none-same Y P k (suc j) l a (omega arith) (w .1) (s .1))
+
+names-apart : (Y : List ℕ) (k i : ℕ) → 8 * (i + k) ≤ length Y → every isPlace (upFrom (place Y) k i) ≡ true → distinct (upFrom (place Y) k i) ≡ true
+    → distinct (map named (upFrom (place Y) k i)) ≡ true
+unfolding upFrom every distinct
+names-apart Y zero i b v h = refl
+names-apart Y (suc k) i b v h =
+    let w = both-true (isPlace (place Y i)) (every isPlace (upFrom (place Y) k (suc i))) v in
+    let s = cond-true (some (same (place Y i)) (upFrom (place Y) k (suc i))) (distinct (upFrom (place Y) k (suc i))) h in
+    rw (none-same Y (place Y i) k (suc i) (place-long Y i (omega arith)) (w .0) (omega arith) (w .1) (s .0), names-apart Y k (suc i) (omega arith) (w .1) (s .1))
+
+values-small : (c : Clause) (k i : ℕ) → every isSmall (upFrom (clauseValue c) k i) ≡ true
+unfolding upFrom every clauseValue
+values-small c zero i = refl
+values-small c (suc k) i = rw (lt-ltb (clauseValue c i) 64 (omega (arith, bits-lt (c .head) i, bits-lt (c .body) i, bits-lt (c .naf) i)), values-small c k (suc i))
+
+row-form : (n : ℕ) (c : Clause) → isRow n (clauseValues n c) ≡ true
+unfolding isRow clauseValues tabulate
+row-form n c = rw (eq-eqb (length (upFrom (clauseValue c) n 0)) n (length-upFrom (clauseValue c) n 0), values-small c n 0)
+
+rows-form : (n : ℕ) (cs : List Clause) → every (isRow n) (map (clauseValues n) cs) ≡ true
+unfolding every
+rows-form n [] = refl
+rows-form n (c ∷ cs) = rw (row-form n c, rows-form n cs)
+
+zeros-word : (k m : ℕ) → bitsOf k 0 ≡ 0 → wordBy k (replicate m 0) ≡ 0
+unfolding wordBy wordOf
+zeros-word k zero z = refl
+zeros-word k (suc m) z = omega (arith, zeros-word k m z, z)
+
+-- a clause with some bit has a value that is not zero
+told-here : (n : ℕ) (c : Clause) → isClause n c ≡ true → every (eqb 0) (clauseValues n c) ≡ false
+unfolding isClause isWord bitsOf
+told-here n c h = ⊎-elim
+    (λ t. let s = clause-below n c h in
+    let e = zeros-are (clauseValues n c) t in
+    let m = length (clauseValues n c) in
+    let a : c .head ≡ 0 = sym (head-back n c (s .head)) ∙ ap (wordBy 1) e ∙ zeros-word 1 m refl in
+    let b : c .body ≡ 0 = sym (body-back n c (s .body)) ∙ ap (wordBy 4) e ∙ zeros-word 4 m refl in
+    let d : c .naf ≡ 0 = sym (naf-back n c (s .naf)) ∙ ap (wordBy 16) e ∙ zeros-word 16 m refl in
+    let z = both-true (isWord n (c .head) && isWord n (c .body) && isWord n (c .naf)) (not (eqb (c .head) 0 && eqb (c .body) 0 && eqb (c .naf) 0)) h .1 in
+    clash (not (eqb (c .head) 0 && eqb (c .body) 0 && eqb (c .naf) 0)) z (rw (eq-eqb (c .head) 0 a, eq-eqb (c .body) 0 b, eq-eqb (c .naf) 0 d)))
+    (λ t. t) (dec (every (eqb 0) (clauseValues n c)))
+
+rows-told : (n : ℕ) (cs : List Clause) → every (isClause n) cs ≡ true → some (every (eqb 0)) (map (clauseValues n) cs) ≡ false
+unfolding every some
+rows-told n [] h = refl
+rows-told n (c ∷ cs) h =
+    let a = both-true (isClause n c) (every (isClause n) cs) h in
+    rw (told-here n c (a .0), rows-told n cs (a .1))
+
+pub good-table : (p : Program) → Sized p → valid p ≡ true → Good (namesOf p) (valuesOf p)
+unfolding namesOf valuesOf rows rowsOf tabulate
+good-table p s v =
+    let t = valid-names p v in
+    let u = valid-clauses p v in
+    let n = p .«atom_count» in
+    let Y = p .«atom_names» in
+    let cs = upFrom (clauseAt (p .heads) (p .bodies) (p .nafs)) (p .«clause_count») 0 in
+    let l : length (upFrom (nameAt Y) n 0) ≡ n = length-upFrom (nameAt Y) n 0 in
+    let e = names-are-named Y n 0 in
+    let a = t .some in
+    let f = t .few in
+    record {
+      any = omega arith;
+      few = omega arith;
+      named = ap (every isName) e ∙ names-good (upFrom (place Y) n 0) (t .named);
+      apart = ap distinct e ∙ names-apart Y n 0 (omega (arith, s .names)) (t .named) (t .apart);
+      short = omega (arith, length-map cs (clauseValues n), length-upFrom (clauseAt (p .heads) (p .bodies) (p .nafs)) (p .«clause_count») 0, u .short);
+      ruled = rw l (rows-form n cs);
+      told = rows-told n cs (u .ruled);
+    }
+
+-- ---- the table of good names and rows is valid
+padded-place : (x : List ℕ) → isName x ≡ true → isPlace (padded 8 x) ≡ true
+unfolding isPlace zeroFrom
+padded-place x h =
+    ap₂ _&&_ (ap isName (trim x h) ∙ h) (ap (λ (n : ℕ). every (eqb 0) (drop n (padded 8 x))) (index-name x h) ∙ padded-tail 8 (length x) x refl)
+
+padded-places : (ns : List (List ℕ)) → every isName ns ≡ true → every isPlace (map (padded 8) ns) ≡ true
+unfolding every
+padded-places [] h = refl
+padded-places (x ∷ ns) h = let a = both-true (isName x) (every isName ns) h in rw (padded-place x (a .0), padded-places ns (a .1))
+
+pads-differ : (x y : List ℕ) → isName x ≡ true → isName y ≡ true → same x y ≡ false → same (padded 8 x) (padded 8 y) ≡ false
+pads-differ x y a b h = ⊎-elim
+    (λ t. let e = sym (trim x a) ∙ ap named (same-true (padded 8 x) (padded 8 y) t) ∙ trim y b in
+    clash (same x y) (ap (same x) (sym e) ∙ same-self x) h)
+    (λ t. t) (dec (same (padded 8 x) (padded 8 y)))
+
+none-again : (x : List ℕ) (ns : List (List ℕ)) → isName x ≡ true → every isName ns ≡ true → some (same x) ns ≡ false → some (same (padded 8 x)) (map (padded 8) ns) ≡ false
+unfolding every some
+none-again x [] a h s = refl
+none-again x (y ∷ ns) a h s =
+    let w = both-true (isName y) (every isName ns) h in
+    let t = both-false (same x y) (some (same x) ns) s in
+    rw (pads-differ x y a (w .0) (t .0), none-again x ns a (w .1) (t .1))
+
+pads-apart : (ns : List (List ℕ)) → every isName ns ≡ true → distinct ns ≡ true → distinct (map (padded 8) ns) ≡ true
+unfolding every distinct
+pads-apart [] h d = refl
+pads-apart (x ∷ ns) h d =
+    let w = both-true (isName x) (every isName ns) h in
+    let t = cond-true (some (same x) ns) (distinct ns) d in
+    rw (none-again x ns (w .0) (w .1) (t .0), pads-apart ns (w .1) (t .1))
+
+word-lt : (k : ℕ) (vs : List ℕ) → wordBy k vs < 2 ^ (2 * length vs)
+unfolding wordBy wordOf bitsOf
+word-lt k [] = omega arith
+word-lt k (v ∷ vs) =
+    let q : 2 * suc (length vs) ≡ suc (suc (2 * length vs)) = omega arith in
+    let p : 2 ^ (2 * suc (length vs)) ≡ 4 * 2 ^ (2 * length vs) = ap (λ (n : ℕ). 2 ^ n) q ∙ omega (arith, pow-suc 2 (suc (2 * length vs)), pow-suc 2 (2 * length vs)) in
+    omega (arith, word-lt k vs)
+
+parts-of : (v : ℕ) → v < 64 → v / 1 % 4 + 4 * (v / 4 % 4) + 16 * (v / 16 % 4) ≡ v
+parts-of v l = omega arith
+
+zero-of : (v : ℕ) → v < 64 → v / 1 % 4 ≡ 0 → v / 4 % 4 ≡ 0 → v / 16 % 4 ≡ 0 → 0 ≡ v
+zero-of v l a b c = rw (a, b, c) at (parts-of v l)
+
+words-zero : (vs : List ℕ) → every isSmall vs ≡ true → wordBy 1 vs ≡ 0 → wordBy 4 vs ≡ 0 → wordBy 16 vs ≡ 0 → every (eqb 0) vs ≡ true
+unfolding every wordBy wordOf bitsOf
+words-zero [] h a b c = refl
+words-zero (v ∷ vs) h a b c =
+    let w = both-true (ltb v 64) (every isSmall vs) h in
+    let l = ltb-true v 64 (w .0) in
+    let a1 : v / 1 % 4 ≡ 0 = omega (arith, a) in
+    let b1 : v / 4 % 4 ≡ 0 = omega (arith, b) in
+    let c1 : v / 16 % 4 ≡ 0 = omega (arith, c) in
+    rw (eq-eqb 0 v (zero-of v l a1 b1 c1), words-zero vs (w .1) (omega (arith, a)) (omega (arith, b)) (omega (arith, c)))
+
+row-clause : (n : ℕ) (vs : List ℕ) → isRow n vs ≡ true → every (eqb 0) vs ≡ false → isClause n (clauseFrom vs) ≡ true
+unfolding isClause isWord
+row-clause n vs h t =
+    let e : 2 ^ (2 * length vs) ≡ 2 ^ (2 * n) = ap (λ (m : ℕ). 2 ^ (2 * m)) (row-long n vs h) in
+    let z : eqb (wordBy 1 vs) 0 && eqb (wordBy 4 vs) 0 && eqb (wordBy 16 vs) 0 ≡ false = ⊎-elim
+    (λ q. let u = both-true (eqb (wordBy 1 vs) 0 && eqb (wordBy 4 vs) 0) (eqb (wordBy 16 vs) 0) q in
+    let w = both-true (eqb (wordBy 1 vs) 0) (eqb (wordBy 4 vs) 0) (u .0) in
+    clash (every (eqb 0) vs) (words-zero vs (row-small n vs h) (eqb-true _ _ (w .0)) (eqb-true _ _ (w .1)) (eqb-true _ _ (u .1))) t)
+    (λ q. q) (dec (eqb (wordBy 1 vs) 0 && eqb (wordBy 4 vs) 0 && eqb (wordBy 16 vs) 0)) in
+    rw (
+      lt-ltb (wordBy 1 vs) (2 ^ (2 * n)) (omega (arith, word-lt 1 vs)),
+      lt-ltb (wordBy 4 vs) (2 ^ (2 * n)) (omega (arith, word-lt 4 vs)),
+      lt-ltb (wordBy 16 vs) (2 ^ (2 * n)) (omega (arith, word-lt 16 vs)),
+      z,
+    )
+
+rows-clauses : (n : ℕ) (vss : List (List ℕ)) → every (isRow n) vss ≡ true → some (every (eqb 0)) vss ≡ false → every (isClause n) (map clauseFrom vss) ≡ true
+unfolding every some
+rows-clauses n [] h t = refl
+rows-clauses n (r ∷ vss) h t =
+    let p = both-true (isRow n r) (every (isRow n) vss) h in
+    let s = both-false (every (eqb 0) r) (some (every (eqb 0)) vss) t in
+    rw (row-clause n r (p .0) (s .0), rows-clauses n vss (p .1) (s .1))
+
+module _ (ns vss : List (List ℕ)) (g : Good ns vss) where
+  pub valid-with : valid (tableOf ns vss) ≡ true
+  unfolding valid namesValid clausesValid zeroFrom tableOf
+  valid-with =
+      let n = length ns in
+      let m = length vss in
+      rw (
+        le-leb 1 n (g .any),
+        le-leb n 12 (g .few),
+        le-leb m 64 (g .short),
+        places-of ns (g .named),
+        padded-places ns (g .named),
+        pads-apart ns (g .named) (g .apart),
+        padded-tail 96 (8 * n) (placed ns) (placed-long ns (g .named)),
+        clauses-of vss,
+        rows-clauses n vss (g .ruled) (g .told),
+        padded-tail 64 m (map (wordBy 1) vss) (length-map vss (wordBy 1)),
+        padded-tail 64 m (map (wordBy 4) vss) (length-map vss (wordBy 4)),
+        padded-tail 64 m (map (wordBy 16) vss) (length-map vss (wordBy 16)),
+      )
+
+  pub sized-with : Sized (tableOf ns vss)
+  unfolding tableOf
+  sized-with = record {
+    names = padded-long 96 (placed ns) (omega (arith, placed-long ns (g .named), g .few));
+    heads = padded-long 64 (map (wordBy 1) vss) (omega (arith, length-map vss (wordBy 1), g .short));
+    bodies = padded-long 64 (map (wordBy 4) vss) (omega (arith, length-map vss (wordBy 4), g .short));
+    nafs = padded-long 64 (map (wordBy 16) vss) (omega (arith, length-map vss (wordBy 16), g .short));
+  }

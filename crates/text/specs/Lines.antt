@@ -1,0 +1,52 @@
+-- The lines of a book and the items on them. Assumes nothing.
+use mathlib.Core.Bool.{Bool}
+use mathlib.Core.List.{List, [], _∷_, _++_, map, tail}
+use Prim.Native.Nat.{ℕ}
+use Rattle.lists.specs.Bytes.{pieces, ended, join}
+use Rattle.decimal.specs.Decimal.{decimal, numberOf}
+
+-- ---- written
+-- "Each line ends in byte 10." "Items on a line are separated by one space, with none at either end."
+unfoldable pub lineOf : List (List ℕ) → List ℕ
+unfolding join
+lineOf is = join 32 is ++ 10 ∷ []
+
+-- "a line of names"
+unfoldable pub namesLine : List (List ℕ) → List ℕ
+unfolding lineOf
+namesLine ns = lineOf ns
+
+-- "one line per clause with a value for each name in that order"; the report's lines of values 0 to 3 are such lines too
+unfoldable pub valuesLine : List ℕ → List ℕ
+unfolding lineOf decimal
+valuesLine vs = lineOf (map decimal vs)
+
+-- ---- read
+-- the lines of a text, each without the byte 10 that ends it
+abbrev pub lines : List ℕ → List (List ℕ)
+lines b = ended 10 b
+
+-- the items on a line
+abbrev pub items : List ℕ → List (List ℕ)
+items l = pieces 32 l
+
+abbrev pub firstLine : List (List ℕ) → List ℕ
+firstLine [] = []
+firstLine (l ∷ ls) = l
+
+-- the names, on the first line, and the lines of the clauses, behind it
+unfoldable pub names : List ℕ → List (List ℕ)
+names b = items (firstLine (lines b))
+
+unfoldable pub clauseLines : List ℕ → List (List ℕ)
+clauseLines b = tail (lines b)
+
+-- "A value is a decimal number 0 to 63 without leading zeros": the value that an item is, 64 for none
+unfoldable pub valueOf : List ℕ → ℕ
+unfolding numberOf
+valueOf i = numberOf 63 i
+
+-- the values on a line
+unfoldable pub row : List ℕ → List ℕ
+unfolding valueOf
+row l = map valueOf (items l)

@@ -1,0 +1,32 @@
+-- What a text is read as. Assumes nothing.
+use mathlib.Core.Path.{_≡_}
+use mathlib.Core.Bool.{cond}
+use mathlib.Core.List.{List, map}
+use Prim.Native.Nat.{ℕ}
+use lib.Dec.{eqb}
+use Rattle.program.specs.declared.Program.{Program}
+use Rattle.text.specs.declared.Read.{Read}
+use Rattle.text.specs.declared.Verdict.{Verdict}
+use Rattle.text.specs.declared.Verdict.the-variants.{Accepted, Refused}
+use Rattle.text.specs.Lines.{names, clauseLines, row}
+use Rattle.text.specs.Tables.{tableOf, zeroTable}
+use Rattle.text.specs.Refusals.{refusal}
+
+-- "A refusal carries its number": the number of a verdict, 0 where the input is accepted
+abbrev pub refusedBy : Verdict → ℕ
+refusedBy Accepted = 0
+refusedBy (Refused r) = r
+
+-- the table of a text that no refusal meets
+unfoldable pub programOf : List ℕ → Program
+programOf b = tableOf (names b) (map row (clauseLines b))
+
+-- the reader's answer: "the reader's comes with an all-zero table"
+unfoldable pub readOf : List ℕ → Read
+readOf b = cond (eqb (refusal b) 0)
+    (record { verdict = Accepted; program = programOf b })
+    (record { verdict = Refused (refusal b); program = zeroTable })
+
+-- the reader takes the text
+abbrev pub IsAccepted : List ℕ → Type 0
+IsAccepted b = refusedBy (readOf b .verdict) ≡ 0

@@ -1,0 +1,61 @@
+-- When the reader says no: refusals 1 to 8, each over the whole text. Assumes nothing.
+use mathlib.Core.Bool.{Bool, not, _&&_, _||_}
+use mathlib.Core.List.{List, [], _∷_}
+use Prim.Native.Nat.{ℕ, _-_}
+use lib.Dec.{eqb, leb, ltb}
+use lib.ListN.{length, getD}
+use Rattle.sets.specs.Lists.{every, some}
+use Rattle.lists.specs.Bytes.{same, distinct}
+use Rattle.program.specs.Names.{isPlain, isName}
+use Rattle.program.specs.Refusals.{lowest}
+use Rattle.text.specs.Lines.{lines, items, names, clauseLines, valueOf}
+
+-- 1. "The book has 0 or more than 4,096 bytes."
+unfoldable pub wrongSize : List ℕ → Bool
+wrongSize b = eqb (length b) 0 || ltb 4096 (length b)
+
+-- 2. "Its last byte isn't 10."
+unfoldable pub unended : List ℕ → Bool
+unended b = not (eqb (getD b (length b - 1) 0) 10)
+
+-- 3. "Some byte is not a-z, 0-9, space or 10."
+unfoldable pub isForeign : ℕ → Bool
+isForeign x = not (isPlain x || eqb x 32 || eqb x 10)
+
+unfoldable pub hasForeign : List ℕ → Bool
+hasForeign b = some isForeign b
+
+-- 4. "It has more than 65 lines."
+unfoldable pub tooManyLines : List ℕ → Bool
+tooManyLines b = ltb 65 (length (lines b))
+
+-- 5. "The names line breaks the form above": "Names: 1 to 12, each 1 to 8 bytes of a-z and 0-9, beginning with a letter".
+unfoldable pub namesBroken : List ℕ → Bool
+namesBroken b = not (leb 1 (length (names b)) && leb (length (names b)) 12 && every isName (names b))
+
+-- 6. "Two names are equal."
+unfoldable pub namesEqual : List ℕ → Bool
+namesEqual b = not (distinct (names b))
+
+-- 7. "A clause line breaks the form above": "a value for each name", "a decimal number 0 to 63".
+unfoldable pub isValue : List ℕ → Bool
+isValue i = leb (valueOf i) 63
+
+unfoldable pub lineHolds : ℕ → List ℕ → Bool
+lineHolds n l = eqb (length (items l)) n && every isValue (items l)
+
+unfoldable pub clauseBroken : List ℕ → Bool
+clauseBroken b = not (every (lineHolds (length (names b))) (clauseLines b))
+
+-- 8. "A clause line has only zeros."
+unfoldable pub isZero : List ℕ → Bool
+isZero i = same (48 ∷ []) i
+
+unfoldable pub onlyZeros : List ℕ → Bool
+onlyZeros b = some (λ l. every isZero (items l)) (clauseLines b)
+
+-- "Of several that apply, the lowest is given, wherever in the book each arises": 0 for none
+unfoldable pub refusal : List ℕ → ℕ
+refusal b = lowest (
+    (1, wrongSize b) ∷ (2, unended b) ∷ (3, hasForeign b) ∷ (4, tooManyLines b)
+    ∷ (5, namesBroken b) ∷ (6, namesEqual b) ∷ (7, clauseBroken b) ∷ (8, onlyZeros b) ∷ [])

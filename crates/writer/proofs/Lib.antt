@@ -1,0 +1,3 @@
+-- The laws of the writer's loops.
+pub mod Lines
+pub mod Rules

@@ -1,0 +1,2 @@
+-- What the writer's routines answer.
+pub mod Lines
