@@ -39,12 +39,12 @@ fn takes(w: u32, i: usize, v: u8) -> bool
 fn value_occurs(words: &[u32], i: usize, v: u8) -> bool
     ensures { λ r. ⌜ r ≡ occurs v i (now (words .entry)) ⌝ }
 {
-    let mut k: usize = 0;
-    while k < words.len() {
-        if takes(words[k], i, v) {
+    let mut j: usize = 0;
+    while j < words.len() {
+        if takes(words[j], i, v) {
             return true;
         }
-        k += 1;
+        j += 1;
     }
     false
 }
