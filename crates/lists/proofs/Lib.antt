@@ -3,3 +3,4 @@ pub mod Pieces
 pub mod Loops
 pub mod Writing
 pub mod Padding
+pub mod Filling

@@ -8,7 +8,7 @@ use Rattle.form.proofs.value_of.Statement.{statement}
 use Rattle.form.proofs.value_of.Tie as tie
 
 cast-result : tie.Need-cast-result
-cast-result c = omega (arith, parsed-number 63 _ _ (sym (c .before .v .given .1) ∙ c .before .before .before .read-number .ensures) .1)
+cast-result c = omega (arith, parsed-number _ _ _ (sym (c .before .v .given .1) ∙ c .before .before .before .read-number .ensures) .1)
 
 returns : tie.Need-returns
 unfolding valueOf

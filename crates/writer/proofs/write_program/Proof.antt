@@ -41,7 +41,7 @@ returns-2 c = writes13 _ _ _ (taken (c .before .before .before .before .before .
 put-text-requires : tie.Need-put-text-requires
 put-text-requires c κs =
     let t = taken (c .before .before .before .before .before .before .before .before .before .before .before .before .before .before .before .before) in let s = valid-names _ t in
-    (s .some, s .few, valid-clauses _ t .short, omega (arith, c .before .before .before .before .before .if2 .left, sized (c .before .before .before .before .before .before), ap length (text-is (c .before .before .before .before .before .before .before .before .before .before .before .before .before .before .before .before .before .before .before .args .p))))
+    (s .some, s .few, omega (arith, valid-clauses _ t .short), omega (arith, c .before .before .before .before .before .if2 .left, sized (c .before .before .before .before .before .before), ap length (text-is (c .before .before .before .before .before .before .before .before .before .before .before .before .before .before .before .before .before .before .before .args .p))))
 
 returns-3 : tie.Need-returns-3
 returns-3 c = writes _ _ _ _ _ (taken (c .before .before .before .before .before .before .before .before .before .before .before .before .before .before .before .before .before .before .before)) (sized (c .before .before .before .before .before .before .before .before .before)) (c .before .before .before .before .before .before .before .before .if2 .left) (rw (text-is (c .before .before .before .before .before .before .before .before .before .before .before .before .before .before .before .before .before .before .before .before .before .before .args .p)) at (c .before .before .put-text .ensures))

@@ -1,0 +1,2 @@
+-- The laws of the summary.
+pub mod Laws

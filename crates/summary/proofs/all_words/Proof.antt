@@ -1,0 +1,17 @@
+-- `summary::all_words` meets its contract. Assumes nothing.
+use Prim.Native.Nat.{_-_}
+use lib.ListN.{length}
+use Rattle.lists.proofs.Loops.{Held}
+use Rattle.program.specs.Values.{isWord}
+use Rattle.summary.proofs.Laws.{rules}
+use Rattle.summary.proofs.all_words.Statement.{statement}
+use Rattle.summary.proofs.all_words.Tie as tie
+
+abbrev Inv-loop : tie.InvT-loop
+Inv-loop words n k₀ k = Held words (isWord n) 0 k
+
+abbrev μ-loop : tie.MeasureT-loop
+μ-loop words n k₀ k = length words - k
+
+pub all-words-spec : {M : Type 1} → statement M
+all-words-spec = tie.close (tie.spec Inv-loop μ-loop (λ c. search rules) (λ c. search rules) (λ c. search rules) (λ c. search rules) (λ c. search rules) (λ c. search rules) (λ c. search rules) (λ c. search rules) (λ c. search rules))

@@ -1,0 +1,13 @@
+-- `summary::occurring_in` meets its contract. Assumes nothing.
+use native.Mathlib.Omega.{arith}
+use Rattle.summary.specs.Summary.{occurringIn}
+use Rattle.summary.proofs.Laws.{rules}
+use Rattle.summary.proofs.occurring_in.Statement.{statement}
+use Rattle.summary.proofs.occurring_in.Tie as tie
+
+returns : tie.Need-returns
+unfolding occurringIn
+returns c = omega arith
+
+pub occurring-in-spec : {M : Type 1} → statement M
+occurring-in-spec = tie.close (tie.spec (λ c. search rules) (λ c. search rules) (λ c. search rules) (λ c. search rules) (λ c. search rules) (λ c. search rules) (λ c. search rules) returns)

@@ -1,0 +1,7 @@
+-- `summary::settled_at` meets its contract. Assumes nothing.
+use Rattle.summary.proofs.Laws.{rules}
+use Rattle.summary.proofs.settled_at.Statement.{statement}
+use Rattle.summary.proofs.settled_at.Tie as tie
+
+pub settled-at-spec : {M : Type 1} → statement M
+settled-at-spec = tie.close (tie.spec (λ c. search rules) (λ c. search rules) (λ c. search rules) (λ c. search rules))

@@ -1,0 +1,17 @@
+-- `summary::settled_of` meets its contract. Assumes nothing.
+use mathlib.Core.Bool.{false}
+use Prim.Native.Nat.{_-_}
+use Rattle.lists.proofs.Filling.{Filled}
+use Rattle.summary.specs.Summary.{settledAt}
+use Rattle.summary.proofs.Laws.{rules}
+use Rattle.summary.proofs.settled_of.Statement.{statement}
+use Rattle.summary.proofs.settled_of.Tie as tie
+
+abbrev Inv-loop : tie.InvT-loop
+Inv-loop shown n out₀ i₀ out i = Filled (settledAt n shown) false 12 i out
+
+abbrev μ-loop : tie.MeasureT-loop
+μ-loop shown n out₀ i₀ out i = 12 - i
+
+pub settled-of-spec : {M : Type 1} → statement M
+settled-of-spec = tie.close (tie.spec Inv-loop μ-loop (λ c. search rules) (λ c. search rules) (λ c. search rules) (λ c. search rules) (λ c. search rules) (λ c. search rules) (λ c. search rules))

@@ -1,0 +1,10 @@
+-- `summary::takes` meets its contract. Assumes nothing.
+use Rattle.summary.proofs.Laws.{rules}
+use Rattle.summary.proofs.takes.Statement.{statement}
+use Rattle.summary.proofs.takes.Tie as tie
+
+returns : tie.Need-returns
+returns c = rw (c .value-in .ensures)
+
+pub takes-spec : {M : Type 1} → statement M
+takes-spec = tie.close (tie.spec (λ c. search rules) returns)

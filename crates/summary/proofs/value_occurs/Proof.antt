@@ -1,0 +1,27 @@
+-- `summary::value_occurs` meets its contract. Assumes nothing.
+use Prim.Native.Nat.{_-_}
+use lib.Dec.{eqb}
+use lib.ListN.{length}
+use Rattle.lists.proofs.Loops.{Scanned}
+use Rattle.program.specs.Values.{valueIn}
+use Rattle.summary.specs.Summary.{occurs}
+use Rattle.summary.proofs.Laws.{rules}
+use Rattle.summary.proofs.value_occurs.Statement.{statement}
+use Rattle.summary.proofs.value_occurs.Tie as tie
+
+abbrev Inv-loop : tie.InvT-loop
+Inv-loop words i v k₀ k = Scanned words (λ w. eqb (valueIn w i) v) k
+
+abbrev μ-loop : tie.MeasureT-loop
+μ-loop words i v k₀ k = length words - k
+
+returns : tie.Need-returns Inv-loop μ-loop
+unfolding occurs
+returns c = search rules
+
+returns-2 : tie.Need-returns-2 Inv-loop μ-loop
+unfolding occurs
+returns-2 c = search rules
+
+pub value-occurs-spec : {M : Type 1} → statement M
+value-occurs-spec = tie.close (tie.spec Inv-loop μ-loop (λ c. search rules) (λ c. search rules) (λ c. search rules) (λ c. search rules) returns (λ c. search rules) (λ c. search rules) (λ c. search rules) returns-2)

@@ -1,0 +1,2 @@
+-- What a summary shows.
+pub mod Summary
