@@ -57,7 +57,7 @@ fn stands(set: &[u64], count: usize, at: usize, x: u64) -> bool
 }
 
 // Puts `x` into the set in the first `count` places; gives the number of members, or one more than there are places where it would be one too many.
-fn insert(set: &mut [u64], count: usize, x: u64) -> usize
+pub fn insert(set: &mut [u64], count: usize, x: u64) -> usize
     requires { ⌜ (count ≤ length (now set)) × Rising (take count (now set)) ⌝ }
     ensures { λ r. ⌜ Put (now (set .entry)) (now (set .exit)) (insertInto x (take count (now (set .entry)))) r ⌝ }
 {
@@ -74,7 +74,7 @@ fn insert(set: &mut [u64], count: usize, x: u64) -> usize
 }
 
 // Whether `a` is a subset of `b`.
-fn subset(a: u64, b: u64) -> bool
+pub fn subset(a: u64, b: u64) -> bool
     ensures { λ r. ⌜ r ≡ inside a b ⌝ }
 {
     a & b == a

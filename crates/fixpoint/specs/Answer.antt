@@ -1,0 +1,80 @@
+-- The answer of the fixpoint for every table, every list and every two working slices. Assumes nothing.
+use mathlib.Core.Path.{_≡_}
+use mathlib.Core.Bool.{Bool, cond, not}
+use mathlib.Core.List.{List, [], _∷_}
+use Prim.Native.Nat.{ℕ, _+_, _*_, min}
+use lib.Dec.{eqb, leb, ltb}
+use lib.ListN.{length, take}
+use Rattle.program.specs.declared.Program.{Program}
+use Rattle.program.specs.Clauses.{Clause, clauses}
+use Rattle.program.specs.Valid.{valid}
+use Rattle.program.specs.Refusals.{lowest}
+use Rattle.stages.specs.Operator.{WordRule}
+use Rattle.stages.specs.Run.{crowded}
+use Rattle.transform.specs.Transform.{epistemic, members}
+use Rattle.search.specs.declared.Outcome.{Outcome}
+use Rattle.search.specs.declared.Outcome.the-variants.{Complete, Full, Refused}
+use Rattle.fixpoint.specs.declared.FixpointAnswer.{FixpointAnswer}
+use Rattle.fixpoint.specs.Listing.{listing, overwrite}
+
+-- "Outcome: complete, or full if the list is too short for them all; it then holds the lowest ones, as many as fit."
+unfoldable pub listed : ℕ → ℕ → FixpointAnswer
+listed count places = record { outcome = cond (leb count places) Complete Full; written = min count places }
+
+-- "A refusal carries its number .. and counts are 0."
+unfoldable pub refused : ℕ → FixpointAnswer
+refused n = record { outcome = Refused n; written = 0 }
+
+-- ---- over a positive program of words whose m lowest members are the literals
+unfoldable pub runAnswer : ℕ → List WordRule → ℕ → ℕ → FixpointAnswer
+runAnswer m Q room places = cond (crowded Q room) (refused 12) (listed (length (listing m Q)) places)
+
+unfoldable pub runExit : ℕ → List WordRule → ℕ → List ℕ → List ℕ
+runExit m Q room xs = cond (crowded Q room) xs (overwrite xs (listing m Q))
+
+pub record Answered (m : ℕ) (Q : List WordRule) (room : ℕ) (xs out : List ℕ) (r : FixpointAnswer) : Type 0 where
+  pub answer : r ≡ runAnswer m Q room (length xs)
+  pub exit : out ≡ runExit m Q room xs
+
+-- ---- over clauses and m literals: refusal 11 first
+pub record Fixpoint (m : ℕ) (C : List Clause) (room : ℕ) (xs out : List ℕ) (r : FixpointAnswer) : Type 0 where
+  pub answer : r ≡ cond (ltb 64 (members m C)) (refused 11) (runAnswer m (epistemic m (m + m) C) room (length xs))
+  pub exit : out ≡ cond (ltb 64 (members m C)) xs (runExit m (epistemic m (m + m) C) room xs)
+
+-- ---- the fixpoint of a table
+-- the literals of its names; "The vocabulary has W members: 4n and one for each stand-in."
+abbrev pub literalsOf : Program → ℕ
+literalsOf p = 2 * p .«atom_count»
+
+unfoldable pub vocabulary : Program → ℕ
+vocabulary p = members (literalsOf p) (clauses p)
+
+-- its transform: literals at 0 to 2n - 1, K of each 2n higher, stand-ins from 4n on
+unfoldable pub transformOf : Program → List WordRule
+transformOf p = epistemic (literalsOf p) (literalsOf p + literalsOf p) (clauses p)
+
+-- the words that it lists, were there room and places for all
+unfoldable pub found : Program → List ℕ
+found p = listing (literalsOf p) (transformOf p)
+
+-- "Two working slices .. are lent; their room is the shorter length."
+abbrev pub roomOf : List ℕ → List ℕ → ℕ
+roomOf w v = min (length w) (length v)
+
+-- "the fixpoint [meets] 9, 11, 12"
+unfoldable pub refusal : Program → ℕ → ℕ
+refusal p room = lowest ((9, not (valid p)) ∷ (11, ltb 64 (vocabulary p)) ∷ (12, crowded (transformOf p) room) ∷ [])
+
+-- the answer, and the lent list at exit
+unfoldable pub answerOf : Program → List ℕ → List ℕ → List ℕ → FixpointAnswer
+answerOf p l w v = cond (eqb (refusal p (roomOf w v)) 0) (listed (length (found p)) (length l)) (refused (refusal p (roomOf w v)))
+
+unfoldable pub exitOf : Program → List ℕ → List ℕ → List ℕ → List ℕ
+exitOf p l w v = cond (eqb (refusal p (roomOf w v)) 0) (overwrite l (found p)) l
+
+-- the contract of the fixpoint: the answer and the list at exit outright; the words left in the working slices are free, their lengths stay
+pub record Fixes (p : Program) (l₀ w₀ v₀ : List ℕ) (a : FixpointAnswer) (l w v : List ℕ) : Type 0 where
+  pub says : a ≡ answerOf p l₀ w₀ v₀
+  pub lists : l ≡ exitOf p l₀ w₀ v₀
+  pub first-length : length w ≡ length w₀
+  pub second-length : length v ≡ length v₀
