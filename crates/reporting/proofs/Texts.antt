@@ -1,0 +1,343 @@
+-- The lines of a report: their parts, their lengths, and the models written line by line. Assumes nothing.
+use mathlib.Core.Path.{_≡_, refl, sym, ap, ap₂, _∙_}
+use mathlib.Core.Bool.{Bool, true, false, cond}
+use mathlib.Core.Logic.{_⊎_, inl, inr, ⊎-elim}
+use mathlib.Core.List.{List, [], _∷_, _++_, append-assoc, append-nil, map, flatMap}
+use Prim.Native.Nat.{ℕ, zero, suc, _+_, _-_, _*_, _/_, _%_, _^_, _≤_, _<_}
+use native.Mathlib.Nat.{add-zero, zero-div}
+use native.Mathlib.Numerals.{add-one}
+use native.Mathlib.Omega.{arith}
+use lib.Dec.{eqb, ltb, leb}
+use lib.ListN.{length, getD, take, drop, set, replicate, length-append, length-take, length-drop, length-replicate}
+use borrow.Author.Tests.{eqb-true, ltb-false, le-leb, lt-leb}
+use lib.Seq.{length-take-le, drop-cons, getD-take}
+use Rattle.sets.specs.Lists.{_∈_, Each, upFrom, tabulate}
+use Rattle.sets.proofs.Tests.{dec}
+use Rattle.sets.proofs.Lists.{length-tabulate, map-in, upFrom-in, upFrom-ext, map-upFrom}
+use Rattle.lists.specs.Bytes.{join, led, over, index, Wrote}
+use Rattle.lists.proofs.Writing.{Put, put-start, put-step, put-done, put-as, put-long, part-back, back, two-texts}
+use Rattle.decimal.specs.Decimal.{decimal}
+use Rattle.decimal.proofs.Laws.{decimal-one, decimal-short}
+use Rattle.program.specs.declared.Program.{Program}
+use Rattle.program.specs.Clauses.{clauseOf}
+use Rattle.program.specs.Names.{place, nameAt, namesOf}
+use Rattle.program.specs.Valid.{valid}
+use Rattle.program.proofs.Validity.{valid-names}
+use Rattle.program.specs.Values.{valueIn, clauseValue, clauseValues, wordValues}
+use Rattle.writer.specs.Lines.{firstOf}
+use Rattle.writer.proofs.Lines.{Valued, valued-start, valued-more, valued-done, clause-wrote, clause-room}
+use Rattle.text.specs.Lines.{lineOf, namesLine, valuesLine}
+use Rattle.text.specs.declared.Read.{Read}
+use Rattle.text.specs.declared.Verdict.the-variants.{Accepted, Refused}
+use Rattle.text.specs.Tables.{zeroTable}
+use Rattle.text.specs.Refusals.{refusal}
+use Rattle.text.specs.Reading.{refusedBy, programOf, readOf}
+use Rattle.text.proofs.RoundTrip.{refused-by, read-back, accepted-exactly}
+use Rattle.search.specs.declared.Outcome.{Outcome}
+use Rattle.search.specs.declared.Outcome.the-variants as ended
+use Rattle.search.specs.declared.SearchAnswer.{SearchAnswer}
+use Rattle.search.specs.Tree.{Node, hits}
+use Rattle.search.specs.Answer.{answer, overfull, fullAt, runAnswer, leafOf, nodesOf, answerOf, exitOf, listed, Searches}
+use Rattle.search.proofs.Runs.{accepted, same-places}
+use Rattle.reporting.specs.Report.{byte, endText, tailText, countsText, bothText, refusedWord, outcomeWord, refusedLine, lastLine, modelLines, allowance, lent, searchText, reportOf, mostBytes, Reports}
+
+-- ---- one byte
+pub one-wrote : (b : ℕ) (xs : List ℕ) → 1 ≤ length xs → Wrote (byte b) xs 1 (set xs 0 b)
+one-wrote b [] h = absurd (omega arith)
+one-wrote b (x ∷ xs) h = record { size = refl; whole = refl }
+
+-- ---- a line of two items, of three
+two-items : (a b : List ℕ) → lineOf (a ∷ b ∷ []) ≡ a ++ ((32 ∷ []) ++ (b ++ 10 ∷ []))
+unfolding lineOf join led
+two-items a b = append-assoc a (32 ∷ (b ++ [])) (10 ∷ []) ∙ ap (λ (l : List ℕ). a ++ (32 ∷ (l ++ 10 ∷ []))) (append-nil b)
+
+three-items : (a b c : List ℕ) → lineOf (a ∷ b ∷ c ∷ []) ≡ a ++ ((32 ∷ []) ++ (b ++ ((32 ∷ []) ++ (c ++ 10 ∷ []))))
+unfolding lineOf join led
+three-items a b c =
+    append-assoc a (32 ∷ (b ++ 32 ∷ (c ++ []))) (10 ∷ [])
+    ∙ ap (λ (l : List ℕ). a ++ (32 ∷ l)) (append-assoc b (32 ∷ (c ++ [])) (10 ∷ []) ∙ ap (λ (l : List ℕ). b ++ (32 ∷ (l ++ 10 ∷ []))) (append-nil c))
+
+pub refused-is : (r : ℕ) → refusedLine r ≡ refusedWord ++ tailText r
+unfolding refusedLine
+refused-is r = two-items refusedWord (decimal r)
+
+pub last-is : (o : Outcome) (m v : ℕ) → lastLine o m v ≡ outcomeWord o ++ bothText m v
+unfolding lastLine
+last-is o m v = three-items (outcomeWord o) (decimal m) (decimal v)
+
+-- ---- the word of an outcome
+pub word-room : (o p : Outcome) (xs : List ℕ) → o ≡ p → length (outcomeWord o) ≤ length xs → length (outcomeWord p) ≤ length xs
+word-room o p xs e h = rw (← e) h
+
+pub word-wrote : (o p : Outcome) (w xs : List ℕ) (r : ℕ) (ys : List ℕ) → o ≡ p → outcomeWord p ≡ w → Wrote w xs r ys → Wrote (outcomeWord o) xs r ys
+word-wrote o p w xs r ys e q h = rw (e, q) h
+
+-- ---- how long a line can be
+led-most : (b : ℕ) (is : List (List ℕ)) → Each (λ i. length i ≤ b) is → length (led 32 is) ≤ (b + 1) * length is
+unfolding led
+led-most b [] f = omega arith
+led-most b (i ∷ is) f =
+    let h = f i (inl refl) in
+    let r = led-most b is (λ j m. f j (inr m)) in
+    let e : (b + 1) * suc (length is) ≡ (b + 1) * length is + (b + 1) = omega arith in
+    omega (arith, length-append i (led 32 is))
+
+pub line-most : (b : ℕ) (is : List (List ℕ)) → Each (λ i. length i ≤ b) is → length (lineOf is) ≤ (b + 1) * length is + 1
+unfolding lineOf join
+line-most b [] f = omega arith
+line-most b (i ∷ is) f =
+    let h = f i (inl refl) in
+    let r = led-most b is (λ j m. f j (inr m)) in
+    let e : (b + 1) * suc (length is) ≡ (b + 1) * length is + (b + 1) = omega arith in
+    omega (arith, length-append (i ++ led 32 is) (10 ∷ []), length-append i (led 32 is))
+
+word-most : (o : Outcome) → length (outcomeWord o) ≤ 20
+unfolding outcomeWord refusedWord
+word-most ended.Complete = omega arith
+word-most ended.Full = omega arith
+word-most ended.Spent = omega arith
+word-most (ended.Refused n) = omega arith
+
+refused-word-most : length refusedWord ≤ 20
+unfolding refusedWord
+refused-word-most = omega arith
+
+number-most : (v : ℕ) → v < 2 ^ 64 → length (decimal v) ≤ 20
+number-most v h = decimal-short 19 v (omega arith)
+
+pub last-most : (o : Outcome) (m v : ℕ) → m < 2 ^ 64 → v < 2 ^ 64 → length (lastLine o m v) ≤ 64
+unfolding lastLine
+last-most o m v h k = line-most 20 (outcomeWord o ∷ decimal m ∷ decimal v ∷ []) each
+  where
+    each : Each (λ i. length i ≤ 20) (outcomeWord o ∷ decimal m ∷ decimal v ∷ [])
+    each i (inl e) = rw e (word-most o)
+    each i (inr (inl e)) = rw e (number-most m h)
+    each i (inr (inr (inl e))) = rw e (number-most v k)
+    each i (inr (inr (inr x))) = absurd x
+
+pub refused-most : (r : ℕ) → r < 2 ^ 64 → length (refusedLine r) ≤ 64
+unfolding refusedLine
+refused-most r h = let l = line-most 20 (refusedWord ∷ decimal r ∷ []) each in omega arith
+  where
+    each : Each (λ i. length i ≤ 20) (refusedWord ∷ decimal r ∷ [])
+    each i (inl e) = rw e refused-word-most
+    each i (inr (inl e)) = rw e (number-most r h)
+    each i (inr (inr x)) = absurd x
+
+-- ---- the line of a model
+pub value-small : (w i : ℕ) → valueIn w i < 4
+unfolding valueIn
+value-small w i = omega arith
+
+pub word-value : (w i : ℕ) → valueIn w i ≡ clauseValue (clauseOf w 0 0) i
+unfolding clauseValue valueIn
+word-value w i = let z : 0 / 2 ^ (2 * i) ≡ 0 = zero-div (2 ^ (2 * i)) in rw z (omega arith)
+
+-- the values of a word, one by one
+pub word-more : (w i v : ℕ) (out : List ℕ) → Valued (clauseOf w 0 0) i out → i < 12 → v ≡ valueIn w i → Valued (clauseOf w 0 0) (i + 1) (set out i v)
+word-more w i v out s h e = valued-more (clauseOf w 0 0) i v out s h (e ∙ word-value w i)
+
+pub word-line : (w n : ℕ) → valuesLine (clauseValues n (clauseOf w 0 0)) ≡ valuesLine (wordValues n w)
+unfolding clauseValues wordValues tabulate
+word-line w n = ap valuesLine (upFrom-ext (clauseValue (clauseOf w 0 0)) (valueIn w) n 0 (λ j l. sym (word-value w j)))
+
+module _ (vs : List ℕ) (w n : ℕ) (xs : List ℕ) (e : vs ≡ clauseValues 12 (clauseOf w 0 0)) (h : n ≤ 12) where
+  pub model-room : length (valuesLine (wordValues n w)) ≤ length xs → length (valuesLine (firstOf n vs)) ≤ length xs
+  model-room l = clause-room (clauseOf w 0 0) vs n xs e h (rw (word-line w n) l)
+
+  pub model-wrote : (r : ℕ) (ys : List ℕ) → Wrote (valuesLine (firstOf n vs)) xs r ys → Wrote (valuesLine (wordValues n w)) xs r ys
+  model-wrote r ys v = rw (← word-line w n) (clause-wrote (clauseOf w 0 0) vs n xs r ys e h v)
+
+model-most : (w n : ℕ) → n ≤ 12 → length (valuesLine (wordValues n w)) ≤ 25
+unfolding valuesLine wordValues tabulate
+model-most w n h =
+    let e : map decimal (upFrom (valueIn w) n 0) ≡ upFrom (λ j. decimal (valueIn w j)) n 0 = map-upFrom decimal (valueIn w) n 0 in
+    let l = line-most 1 (upFrom (λ j. decimal (valueIn w j)) n 0) (λ i m.
+    let r = upFrom-in (λ j. decimal (valueIn w j)) n 0 i m in
+    let q = decimal-one (valueIn w (r .0)) (omega (arith, value-small w (r .0))) in
+    rw (r .3, q) (omega arith)) in
+    rw e (omega (arith, length-tabulate (λ j. decimal (valueIn w j)) n))
+
+pub models-most : (n : ℕ) (ws : List ℕ) → n ≤ 12 → length (modelLines n ws) ≤ 25 * length ws
+unfolding modelLines flatMap
+models-most n [] h = omega arith
+models-most n (w ∷ ws) h =
+    omega (arith, models-most n ws h, model-most w n h, length-append (valuesLine (wordValues n w)) (flatMap (λ w. valuesLine (wordValues n w)) ws))
+
+-- ---- the models, line by line
+module _ (ms : List ℕ) (m n : ℕ) where
+  -- the lines from k on
+  unfoldable pub linesFrom : ℕ → List ℕ
+  linesFrom k = modelLines n (drop k (take m ms))
+
+  abbrev pub lineAt : ℕ → List ℕ
+  lineAt k = valuesLine (wordValues n (getD ms k 0))
+
+  lines-next : (k : ℕ) → k < m → m ≤ length ms → linesFrom k ≡ lineAt k ++ linesFrom (k + 1)
+  unfolding linesFrom modelLines flatMap
+  lines-next k h l =
+      let q : k < length (take m ms) = omega (arith, length-take-le m ms l) in
+      ap (modelLines n) (drop-cons (take m ms) k 0 q) ∙ rw (add-one k, getD-take m ms k 0 h)
+
+  lines-none : (k : ℕ) → m ≤ k → m ≤ length ms → linesFrom k ≡ []
+  unfolding linesFrom modelLines flatMap
+  lines-none k h l = ap (modelLines n) (none (drop k (take m ms)) (omega (arith, length-drop k (take m ms), length-take-le m ms l)))
+    where
+      none : (l : List ℕ) → length l ≡ 0 → l ≡ []
+      none [] e = refl
+      none (x ∷ l) e = absurd (omega arith)
+
+  abbrev pub linesText : List ℕ
+  linesText = modelLines n (take m ms)
+
+  module _ (xs : List ℕ) where
+    -- k of the lines stand there
+    pub record Listed (at : ℕ) (out : List ℕ) (k : ℕ) : Type 0 where
+      pub within : k ≤ m
+      pub held : m ≤ length ms
+      pub long : length out ≡ length xs
+      pub put : Put xs linesText at out (linesFrom k)
+
+    pub list-start : m ≤ length ms → length linesText ≤ length xs → Listed 0 xs 0
+    unfolding linesFrom
+    list-start l h = record { within = omega arith; held = l; long = refl; put = put-start xs linesText h }
+
+    list-next : (at : ℕ) (out : List ℕ) (k : ℕ) → Listed at out k → k < m → Put xs linesText at out (lineAt k ++ linesFrom (k + 1))
+    list-next at out k s h = put-as xs linesText at out _ _ (s .put) (lines-next k h (s .held))
+
+    roomy : (at : ℕ) (out : List ℕ) (k : ℕ) → Listed at out k → k < m → at + length (lineAt k) ≤ length out
+    roomy at out k s h =
+        let t = list-next at out k s h in
+        omega (arith, length-drop at linesText, ap length (t .left), length-append (lineAt k) (linesFrom (k + 1)), t .within, t .fits, s .long)
+
+    pub list-from : (at : ℕ) (out : List ℕ) (k : ℕ) → Listed at out k → k < m → at ≤ length out
+    list-from at out k s h = omega (arith, roomy at out k s h)
+
+    pub list-room : (at : ℕ) (out : List ℕ) (k : ℕ) → Listed at out k → k < m → length (lineAt k) ≤ length (take (length out - at) (drop at out))
+    list-room at out k s h = simp (length-take, length-drop) (omega (arith, roomy at out k s h))
+
+    pub list-small : (at : ℕ) (out : List ℕ) (k l : ℕ) (ws : List ℕ) → Listed at out k → k < m → Wrote (lineAt k) (take (length out - at) (drop at out)) l ws → at + l ≤ length out
+    list-small at out k l ws s h w = omega (arith, roomy at out k s h, w .size)
+
+    pub list-more : (at : ℕ) (out : List ℕ) (k l : ℕ) (ws : List ℕ) → Listed at out k → k < m → Wrote (lineAt k) (take (length out - at) (drop at out)) l ws
+        → Listed (at + l) (back out at ws) (k + 1)
+    list-more at out k l ws s h w =
+        let u : Put xs linesText (at + l) (back out at ws) (linesFrom (k + 1)) =
+        rw (w .size) (put-step xs linesText at out (lineAt k) _ (back out at ws) (list-next at out k s h)
+        (part-back out (lineAt k) ws at (omega (arith, roomy at out k s h)) (w .whole))) in
+        record { within = omega arith; held = s .held; long = put-long xs linesText (at + l) (back out at ws) (linesFrom (k + 1)) u; put = u }
+
+    pub list-done : (at : ℕ) (out : List ℕ) (k : ℕ) → Listed at out k → m ≤ k → Wrote linesText xs at out
+    list-done at out k s h = put-done xs linesText at out (put-as xs linesText at out _ _ (s .put) (lines-none k h (s .held)))
+
+-- ---- the whole report
+name-most : (xs : List ℕ) (i : ℕ) → length (nameAt xs i) ≤ 8
+unfolding nameAt place
+name-most xs i = omega (arith, length-take (index 0 (take 8 (drop (8 * i) xs))) (take 8 (drop (8 * i) xs)), length-take 8 (drop (8 * i) xs))
+
+names-most : (xs : List ℕ) (n : ℕ) → n ≤ 12 → length (namesLine (tabulate (nameAt xs) n)) ≤ 109
+unfolding namesLine tabulate
+names-most xs n h =
+    let l = line-most 8 (upFrom (nameAt xs) n 0) (λ i m. let r = upFrom-in (nameAt xs) n 0 i m in rw (r .3) (name-most xs (r .0))) in
+    omega (arith, length-tabulate (nameAt xs) n)
+
+-- no more words are written than there are places
+run-fits : (hit : Node → Bool) (ns : List Node) (A L : ℕ) → runAnswer hit ns A L .written ≤ L
+unfolding runAnswer overfull
+run-fits hit ns A L = go (ltb L (length (hits hit (take A ns)))) refl (ltb A (length ns))
+  where
+    go : (b : Bool) → ltb L (length (hits hit (take A ns))) ≡ b → (c : Bool)
+        → (cond b (answer ended.Full L (fullAt hit ns L)) (cond c (answer ended.Spent (length (hits hit (take A ns))) A) (answer ended.Complete (length (hits hit (take A ns))) (length ns)))) .written ≤ L
+    go true e c = let q : L ≤ L = omega arith in q
+    go false e true = ltb-false _ _ e
+    go false e false = ltb-false _ _ e
+
+module _ (p : Program) (v : valid p ≡ true) (a : SearchAnswer) (ms : List ℕ) (s : Searches p allowance lent a ms) where
+  pub places : a .written ≤ 4096
+  places =
+      let q = ap (λ (x : SearchAnswer). x .written) (s .says ∙ accepted p allowance lent v .0) in
+      let f = run-fits (leafOf p) (nodesOf p) allowance (length lent) in
+      omega (arith, length-replicate {A = ℕ} 4096 0)
+
+  pub models-long : length ms ≡ 4096
+  models-long = ap length (s .lists) ∙ same-places p allowance lent ∙ length-replicate {A = ℕ} 4096 0
+
+  pub listed-here : a .written ≤ length ms
+  listed-here = omega (arith, places, models-long)
+
+  pub text-most : a .visited < 2 ^ 64
+      → length (namesLine (tabulate (nameAt (p .«atom_names»)) (p .«atom_count»)) ++ (modelLines (p .«atom_count») (take (a .written) ms) ++ lastLine (a .outcome) (a .written) (a .visited))) ≤ mostBytes
+  text-most h =
+      let few = valid-names p v .few in
+      let ws = take (a .written) ms in
+      let ls = modelLines (p .«atom_count») ws in
+      let t = lastLine (a .outcome) (a .written) (a .visited) in
+      let n = namesLine (tabulate (nameAt (p .«atom_names»)) (p .«atom_count»)) in
+      let k = places in
+      omega (
+        arith,
+        length-append n (ls ++ t),
+        length-append ls t,
+        names-most (p .«atom_names») (p .«atom_count») few,
+        models-most (p .«atom_count») ws few,
+        length-take-le (a .written) ms listed-here,
+        last-most (a .outcome) (a .written) (a .visited) (omega arith) h,
+      )
+
+  pub search-wrote : (xs : List ℕ) (r : ℕ) (ys : List ℕ)
+      → Wrote (namesLine (tabulate (nameAt (p .«atom_names»)) (p .«atom_count»)) ++ (modelLines (p .«atom_count») (take (a .written) ms) ++ lastLine (a .outcome) (a .written) (a .visited))) xs r ys → Wrote (searchText p) xs r ys
+  unfolding searchText listed namesOf
+  search-wrote xs r ys w = rw (← s .says, ← s .lists) w
+
+-- ---- the ways that the call returns
+module _ (b xs : List ℕ) where
+  pub no-room : length xs < mostBytes → Reports b xs 0 xs
+  no-room h = record { size = rw (lt-leb mostBytes (length xs) h); whole = rw (lt-leb mostBytes (length xs) h); within = omega arith; part = refl }
+
+  reported : (r : ℕ) (ys : List ℕ) → mostBytes ≤ length xs → Wrote (reportOf b) xs r ys → Reports b xs r ys
+  reported r ys h w =
+      let l : r ≤ length ys = omega (arith, w .size, ap length (w .whole), length-append (reportOf b) (drop (length (reportOf b)) xs)) in
+      record {
+        size = w .size ∙ rw (le-leb mostBytes (length xs) h);
+        whole = w .whole ∙ rw (le-leb mostBytes (length xs) h);
+        within = l;
+        part = sym (length-take-le r ys l);
+      }
+
+  module _ (d : Read) (e : d ≡ readOf b) where
+    cleared : d .verdict ≡ Accepted → refusal b ≡ 0
+    cleared t = sym (refused-by b) ∙ ap (λ (x : Read). refusedBy (x .verdict)) (sym e) ∙ ap refusedBy t
+
+    pub read-valid : d .verdict ≡ Accepted → valid (d .program) ≡ true
+    read-valid t =
+        let x = accepted-exactly b .0 (ap (λ (x : Read). refusedBy (x .verdict)) (sym e) ∙ ap refusedBy t) in
+        let q = e ∙ ap readOf (sym (x .3)) ∙ read-back (x .0) (x .1) (x .2) in
+        ap (λ (y : Read). valid (y .program)) q ∙ x .2
+
+    read-program : refusal b ≡ 0 → d .program ≡ programOf b
+    unfolding readOf
+    read-program z = ap (λ (x : Read). x .program) e ∙ rw z
+
+    pub reports-search : (r : ℕ) (ys : List ℕ) → mostBytes ≤ length xs → d .verdict ≡ Accepted → Wrote (searchText (d .program)) xs r ys → Reports b xs r ys
+    unfolding reportOf
+    reports-search r ys h t w = reported r ys h (let z = cleared t in rw z (rw (read-program z) at w))
+
+    number-is : (n : ℕ) → d .verdict ≡ Refused n → n ≡ refusal b
+    number-is n t = sym (ap refusedBy t) ∙ ap (λ (x : Read). refusedBy (x .verdict)) e ∙ refused-by b
+
+    accepted-zero : refusal b ≡ 0 → readOf b .verdict ≡ Accepted
+    unfolding readOf
+    accepted-zero z = rw z
+
+    not-zero : (n : ℕ) → d .verdict ≡ Refused n → eqb (refusal b) 0 ≡ false
+    not-zero n t = ⊎-elim
+        (λ q. absurd (
+        let y : Refused n ≡ Accepted = sym t ∙ ap (λ (x : Read). x .verdict) e ∙ accepted-zero (eqb-true _ _ q) in
+        let z : _≡_ {A = ℕ} 0 1 = cc in
+        omega arith))
+        (λ f. f)
+        (dec (eqb (refusal b) 0))
+
+    pub reports-refusal : (n r : ℕ) (ys : List ℕ) → mostBytes ≤ length xs → d .verdict ≡ Refused n → Wrote (refusedLine n) xs r ys → Reports b xs r ys
+    unfolding reportOf
+    reports-refusal n r ys h t w = reported r ys h (rw (not-zero n t, ← number-is n t) w)

@@ -1,0 +1,16 @@
+-- `reporting::word_values` meets its contract. Assumes nothing.
+use Prim.Native.Nat.{_-_}
+use Rattle.program.specs.Clauses.{clauseOf}
+use Rattle.writer.proofs.Lines.{Valued}
+use Rattle.reporting.proofs.Rules.{rules}
+use Rattle.reporting.proofs.word_values.Statement.{statement}
+use Rattle.reporting.proofs.word_values.Tie as tie
+
+abbrev Inv-loop : tie.InvT-loop
+Inv-loop w out₀ i₀ out i = Valued (clauseOf w 0 0) i out
+
+abbrev μ-loop : tie.MeasureT-loop
+μ-loop w out₀ i₀ out i = 12 - i
+
+pub word-values-spec : {M : Type 1} → statement M
+word-values-spec = tie.close (tie.spec Inv-loop μ-loop (λ c. search rules) (λ c. search rules) (λ c. search rules) (λ c. search rules) (λ c. search rules) (λ c. search rules) (λ c. search rules))

@@ -1,0 +1,2 @@
+-- The report's whole output.
+pub mod Report
