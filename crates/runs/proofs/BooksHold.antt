@@ -1,0 +1,34 @@
+-- The fixpoint's own definitions, transform, stages, minimal and canonical, give just the lists of document 01's sample books. Assumes nothing.
+use mathlib.Core.Path.{_≡_, refl}
+use mathlib.Core.List.{List, [], _∷_, map, flatMap}
+use Prim.Native.Nat.{ℕ, _+_, _*_}
+use Rattle.sets.specs.Lists.{some, sift}
+use Rattle.sets.specs.Words.{mask}
+use Rattle.sets.specs.Least.{least}
+use Rattle.lists.specs.Bytes.{same}
+use Rattle.program.specs.Values.{wordOf, clauseOfValues}
+use Rattle.semantics.specs.Books.{Book, books, clausesOf, modelsOf}
+use Rattle.stages.specs.RisingSets.{insertInto, addAll}
+use Rattle.stages.specs.Literals.{bitsFrom}
+use Rattle.stages.specs.Operator.{WordRule, choices, next, stage}
+use Rattle.stages.specs.Run.{resting, ending, finalStage}
+use Rattle.stages.specs.Minimal.{violates, satisfies, properIn, leastIn, minimals, minimalModels}
+use Rattle.transform.specs.Transform.{numbered, rewritten, becomes, standIns, epistemic}
+use Rattle.fixpoint.specs.Listing.{canonical, listing}
+
+-- what the fixpoint lists of a book
+abbrev fixpointOf : Book → List ℕ
+fixpointOf b = listing (2 * b .names) (epistemic (2 * b .names) (2 * b .names + 2 * b .names) (clausesOf b))
+
+-- all eleven at once, by computation
+pub fixpoint-books-hold : map fixpointOf books ≡ map modelsOf books
+unfolding books wordOf clauseOfValues some sift mask least same insertInto addAll bitsFrom choices next stage resting ending finalStage violates satisfies properIn leastIn minimals minimalModels numbered rewritten becomes standIns epistemic canonical listing flatMap
+fixpoint-books-hold = refl
+
+-- the stages of the source's Example 2.11: a ∨ b ← c, ¬d ← c, c ←, ← a, b, over a, b, c, d
+abbrev example : List WordRule
+example = record { head = 0b00000101; body = 0b00010000 } ∷ record { head = 0b10000000; body = 0b00010000 } ∷ record { head = 0b00010000; body = 0 } ∷ record { head = 0; body = 0b00000101 } ∷ []
+
+pub example-stages : map (stage example) (0 ∷ 1 ∷ 2 ∷ 3 ∷ 4 ∷ []) ≡ (0 ∷ []) ∷ (0b00010000 ∷ []) ∷ (0b10010001 ∷ 0b10010100 ∷ []) ∷ (0b10010001 ∷ 0b10010100 ∷ 0b10010101 ∷ []) ∷ (0b10010001 ∷ 0b10010100 ∷ 0b10010101 ∷ []) ∷ []
+unfolding mask insertInto addAll bitsFrom choices next stage flatMap
+example-stages = refl
