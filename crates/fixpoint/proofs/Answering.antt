@@ -32,7 +32,8 @@ use Rattle.transform.specs.Emit.{clausesFrom, Emits, Room, Book}
 use Rattle.search.specs.declared.Outcome.{Outcome}
 use Rattle.search.specs.declared.Outcome.the-variants.{Complete, Full, Refused}
 use Rattle.fixpoint.specs.declared.FixpointAnswer.{FixpointAnswer}
-use Rattle.fixpoint.specs.Listing.{literalPart, canonical, listing, overwrite}
+use Rattle.transform.specs.Listing.{literalPart, canonical, listing}
+use Rattle.fixpoint.specs.Overwriting.{overwrite}
 use Rattle.fixpoint.specs.Answer.{listed, refused, runAnswer, runExit, Answered, Fixpoint, literalsOf, vocabulary, transformOf, found, roomOf, refusal, answerOf, exitOf, Fixes}
 use Rattle.fixpoint.proofs.Size.{program-short}
 

@@ -12,7 +12,8 @@ use mathlib.Core.Path.{_≡_, refl, sym, ap, ap₂, _∙_, subst}
 use native.Mathlib.Nat.{one-mul}
 use native.Mathlib.Numerals.{add-one}
 use native.Mathlib.Omega.{arith}
-use Rattle.fixpoint.specs.Listing.{literalPart, canonical, overwrite}
+use Rattle.transform.specs.Listing.{literalPart, canonical}
+use Rattle.fixpoint.specs.Overwriting.{overwrite}
 use Rattle.sets.proofs.Lists.{at-in}
 use Rattle.sets.specs.Lists.{Each, sift, Rising}
 use Rattle.sets.specs.Words.{inside}

@@ -18,7 +18,7 @@ use Rattle.epistemic.proofs.Masks.{taggedFrom}
 use Rattle.stages.specs.Operator.{WordRule}
 use Rattle.transform.specs.Transform.{epistemic, members}
 use Rattle.transform.proofs.Theory.{transformed, vocabularySize, epistemic-is, members-are}
-use Rattle.fixpoint.specs.Listing.{listing}
+use Rattle.transform.specs.Listing.{listing}
 use Rattle.fixpoint.specs.Answer.{literalsOf, vocabulary, transformOf, found}
 use Rattle.fixpoint.proofs.Theorem.{listing-rising, listing-sound, listing-complete}
 

@@ -12,7 +12,7 @@ use Rattle.epistemic.proofs.Rename.{rename}
 use Rattle.epistemic.proofs.WordMain.{program}
 use Rattle.epistemic.specs.Positive.{Rule}
 use Rattle.epistemic.specs.Transform.{Tagged, kappa}
-use Rattle.fixpoint.specs.Listing.{literalPart, canonical, listing}
+use Rattle.transform.specs.Listing.{literalPart, canonical, listing}
 use Rattle.program.proofs.Validity.{Below}
 use Rattle.program.specs.Clauses.{Clause}
 use Rattle.sets.proofs.Lists.{in-map, map-in, in-sift, out-sift}

@@ -15,7 +15,8 @@ use Rattle.transform.specs.Transform.{epistemic, members}
 use Rattle.search.specs.declared.Outcome.{Outcome}
 use Rattle.search.specs.declared.Outcome.the-variants.{Complete, Full, Refused}
 use Rattle.fixpoint.specs.declared.FixpointAnswer.{FixpointAnswer}
-use Rattle.fixpoint.specs.Listing.{listing, overwrite}
+use Rattle.transform.specs.Listing.{listing}
+use Rattle.fixpoint.specs.Overwriting.{overwrite}
 
 -- "Outcome: complete, or full if the list is too short for them all; it then holds the lowest ones, as many as fit."
 unfoldable pub listed : ℕ → ℕ → FixpointAnswer

@@ -1,3 +1,3 @@
 -- What the fixpoint answers and lists; the laws and theorems stand in proofs/.
-pub mod Listing
+pub mod Overwriting
 pub mod Answer

@@ -1,3 +1,2 @@
 -- Demand 3.
 pub mod TwoRuns
-pub mod BooksHold

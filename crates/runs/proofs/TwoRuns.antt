@@ -24,7 +24,7 @@ use Rattle.search.specs.declared.Outcome.the-variants.{Complete, Full, Spent, R
 use Rattle.search.specs.Answer.{nodesOf, refusedBy}
 use Rattle.search.specs.Answer.{listed as searchListed, refusal as searchRefusal}
 use Rattle.search.proofs.Runs as searches
-use Rattle.fixpoint.specs.Listing.{overwrite}
+use Rattle.fixpoint.specs.Overwriting.{overwrite}
 use Rattle.fixpoint.specs.declared.FixpointAnswer.{FixpointAnswer}
 use Rattle.fixpoint.specs.Answer.{vocabulary, transformOf, roomOf, found, refusal as fixedRefusal, listed as fixedListed, refused as fixedRefused, answerOf as fixedAnswer, exitOf as fixedExit}
 use Rattle.fixpoint.specs.Answer as fixpoint

@@ -277,11 +277,11 @@ module _ (p : Program) (s : Sized p) (v : valid p ≡ true) where
       let e1 : length (upFrom (nameAt (p .«atom_names»)) n 0) ≡ n = length-upFrom (nameAt (p .«atom_names»)) n 0 in
       let e3 : length (map (clauseValues n) (upFrom cl m 0)) ≡ m = length-map (upFrom cl m 0) (clauseValues n) ∙ length-upFrom cl m 0 in
       let e4 : padded 64 (map (wordBy 1) (map (clauseValues n) (upFrom cl m 0))) ≡ p .heads =
-      column-is 1 n (λ c. c .head) (λ c h. head-back n c (clause-below n c h .head)) cl (p .heads) m (λ j. refl) (s .heads) (t .short) (t .ruled) (t .no-heads) in
+      column-is 1 n (λ c. c .head) (λ c h. head-back n c (clause-below n c h .heads)) cl (p .heads) m (λ j. refl) (s .heads) (t .short) (t .ruled) (t .no-heads) in
       let e5 : padded 64 (map (wordBy 4) (map (clauseValues n) (upFrom cl m 0))) ≡ p .bodies =
-      column-is 4 n (λ c. c .body) (λ c h. body-back n c (clause-below n c h .body)) cl (p .bodies) m (λ j. refl) (s .bodies) (t .short) (t .ruled) (t .no-bodies) in
+      column-is 4 n (λ c. c .body) (λ c h. body-back n c (clause-below n c h .bodies)) cl (p .bodies) m (λ j. refl) (s .bodies) (t .short) (t .ruled) (t .no-bodies) in
       let e6 : padded 64 (map (wordBy 16) (map (clauseValues n) (upFrom cl m 0))) ≡ p .nafs =
-      column-is 16 n (λ c. c .naf) (λ c h. naf-back n c (clause-below n c h .naf)) cl (p .nafs) m (λ j. refl) (s .nafs) (t .short) (t .ruled) (t .no-nafs) in
+      column-is 16 n (λ c. c .naf) (λ c h. naf-back n c (clause-below n c h .nafs)) cl (p .nafs) m (λ j. refl) (s .nafs) (t .short) (t .ruled) (t .no-nafs) in
       rw (e1, names-column, e3, e4, e5, e6)
 
 -- ---- the names and rows of a valid table are good
@@ -342,9 +342,9 @@ told-here n c h = ⊎-elim
     (λ t. let s = clause-below n c h in
     let e = zeros-are (clauseValues n c) t in
     let m = length (clauseValues n c) in
-    let a : c .head ≡ 0 = sym (head-back n c (s .head)) ∙ ap (wordBy 1) e ∙ zeros-word 1 m refl in
-    let b : c .body ≡ 0 = sym (body-back n c (s .body)) ∙ ap (wordBy 4) e ∙ zeros-word 4 m refl in
-    let d : c .naf ≡ 0 = sym (naf-back n c (s .naf)) ∙ ap (wordBy 16) e ∙ zeros-word 16 m refl in
+    let a : c .head ≡ 0 = sym (head-back n c (s .heads)) ∙ ap (wordBy 1) e ∙ zeros-word 1 m refl in
+    let b : c .body ≡ 0 = sym (body-back n c (s .bodies)) ∙ ap (wordBy 4) e ∙ zeros-word 4 m refl in
+    let d : c .naf ≡ 0 = sym (naf-back n c (s .nafs)) ∙ ap (wordBy 16) e ∙ zeros-word 16 m refl in
     let z = both-true (isWord n (c .head) && isWord n (c .body) && isWord n (c .naf)) (not (eqb (c .head) 0 && eqb (c .body) 0 && eqb (c .naf) 0)) h .1 in
     clash (not (eqb (c .head) 0 && eqb (c .body) 0 && eqb (c .naf) 0)) z (rw (eq-eqb (c .head) 0 a, eq-eqb (c .body) 0 b, eq-eqb (c .naf) 0 d)))
     (λ t. t) (dec (every (eqb 0) (clauseValues n c)))

@@ -1,4 +1,5 @@
 -- What the transform is, and laws of the routines that put it out.
+pub mod BooksHold
 pub mod Theory
 pub mod Emit
 pub mod Emitting

@@ -1,3 +1,4 @@
 -- The epistemic transform of a program on words; the laws stand in proofs/.
 pub mod Transform
+pub mod Listing
 pub mod Emit

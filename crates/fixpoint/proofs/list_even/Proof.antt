@@ -3,7 +3,7 @@ use mathlib.Core.Path.{ap, _∙_}
 use native.Mathlib.Omega.{arith}
 use lib.ListN.{take}
 use Rattle.sets.specs.Lists.{sift}
-use Rattle.fixpoint.specs.Listing.{canonical}
+use Rattle.transform.specs.Listing.{canonical}
 use Rattle.fixpoint.specs.Answer.{listed}
 use Rattle.fixpoint.proofs.Answering.{refused-crowded, answered, small-parts}
 use Rattle.fixpoint.proofs.Rules.{rules}

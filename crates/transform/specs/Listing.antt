@@ -1,8 +1,7 @@
 -- What is taken of the minimal models of the transform. Assumes nothing.
 use mathlib.Core.Bool.{Bool}
-use mathlib.Core.List.{List, _++_, map}
+use mathlib.Core.List.{List, map}
 use Prim.Native.Nat.{ℕ, _/_, _%_, _^_}
-use lib.ListN.{length, take, drop}
 use Rattle.sets.specs.Lists.{sift}
 use Rattle.sets.specs.Words.{inside}
 use Rattle.stages.specs.RisingSets.{gather}
@@ -20,7 +19,3 @@ canonical m w = inside (literalPart m (w / 2 ^ m)) (literalPart m w)
 -- "Their literal parts, distinct and rising, are the list."
 unfoldable pub listing : ℕ → List WordRule → List ℕ
 listing m Q = gather (map (literalPart m) (sift (canonical m) (minimalModels Q)))
-
--- the words l in the first places of xs, as many as fit: "Places behind those written keep their content"
-unfoldable pub overwrite : List ℕ → List ℕ → List ℕ
-overwrite xs l = take (length xs) l ++ drop (length l) xs

@@ -2,10 +2,11 @@
 use mathlib.Core.Path.{_≡_, refl}
 use mathlib.Core.List.{List, [], _∷_, map, flatMap}
 use Prim.Native.Nat.{ℕ, _+_, _*_}
-use Rattle.sets.specs.Lists.{some, sift}
+use Rattle.sets.specs.Lists.{some, sift, upFrom, tabulate}
 use Rattle.sets.specs.Words.{mask}
 use Rattle.sets.specs.Least.{least}
 use Rattle.lists.specs.Bytes.{same}
+use Rattle.program.specs.Clauses.{Clause}
 use Rattle.program.specs.Values.{wordOf, clauseOfValues}
 use Rattle.semantics.specs.Books.{Book, books, clausesOf, modelsOf}
 use Rattle.stages.specs.RisingSets.{insertInto, addAll}
@@ -13,8 +14,8 @@ use Rattle.stages.specs.Literals.{bitsFrom}
 use Rattle.stages.specs.Operator.{WordRule, choices, next, stage}
 use Rattle.stages.specs.Run.{resting, ending, finalStage}
 use Rattle.stages.specs.Minimal.{violates, satisfies, properIn, leastIn, minimals, minimalModels}
-use Rattle.transform.specs.Transform.{numbered, rewritten, becomes, standIns, epistemic}
-use Rattle.fixpoint.specs.Listing.{canonical, listing}
+use Rattle.transform.specs.Transform.{numbered, rewritten, becomes, standIns, allStandIns, epistemic, members}
+use Rattle.transform.specs.Listing.{canonical, listing}
 
 -- what the fixpoint lists of a book
 abbrev fixpointOf : Book → List ℕ
@@ -32,3 +33,15 @@ example = record { head = 0b00000101; body = 0b00010000 } ∷ record { head = 0b
 pub example-stages : map (stage example) (0 ∷ 1 ∷ 2 ∷ 3 ∷ 4 ∷ []) ≡ (0 ∷ []) ∷ (0b00010000 ∷ []) ∷ (0b10010001 ∷ 0b10010100 ∷ []) ∷ (0b10010001 ∷ 0b10010100 ∷ 0b10010101 ∷ []) ∷ (0b10010001 ∷ 0b10010100 ∷ 0b10010101 ∷ []) ∷ []
 unfolding mask insertInto addAll bitsFrom choices next stage flatMap
 example-stages = refl
+
+-- "12 names, 16 stand-ins: W is 64, taken; 17 stand-ins: refusal 11": lines `17 0 0 ..`, of which each has a stand-in of its own
+abbrev twelve : ℕ → List Clause
+twelve k = tabulate (λ _. clauseOfValues (17 ∷ tabulate (λ _. 0) 11)) k
+
+pub sixteen-stand-ins : members 24 (twelve 16) ≡ 64
+unfolding upFrom tabulate wordOf clauseOfValues sift bitsFrom standIns allStandIns members
+sixteen-stand-ins = refl
+
+pub seventeen-stand-ins : members 24 (twelve 17) ≡ 65
+unfolding upFrom tabulate wordOf clauseOfValues sift bitsFrom standIns allStandIns members
+seventeen-stand-ins = refl
