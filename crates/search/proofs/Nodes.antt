@@ -18,7 +18,6 @@ use Rattle.program.specs.Clauses.{Clause}
 use Rattle.semantics.specs.Interpretations.{reduct, isModel, violates, leastSmaller, isStable, models}
 use Rattle.stable.proofs.Checking.{model-cons}
 use Rattle.search.specs.Tree.{Node, node, Dead, decided, deadBy, dead, nodes, tree, isStableLeaf, hits, stableLeaves}
-use Rattle.search.specs.Leaf.{isMinimal}
 
 -- ---- a word whose k low bits are zero, and r below 2 ^ k put there
 and-blocks : (k a s b r : ℕ) → s < 2 ^ k → r < 2 ^ k → bitAnd (a * 2 ^ k + s) (b * 2 ^ k + r) ≡ bitAnd (a * 2 ^ k + s) (b * 2 ^ k + 0) + bitAnd s r
@@ -89,6 +88,11 @@ pub live-leaf : (P : List Clause) (w : ℕ) → isModel (reduct P w) w ≡ not (
 unfolding dead some isModel reduct
 live-leaf [] w = refl
 live-leaf (c ∷ P) w = model-cons c P w w ∙ rw (live-leaf P w, dead-one w c) (sym (not-or (violates w w c) (dead P 0 w)))
+
+-- no proper subset of I satisfies the reduct by I
+unfoldable pub isMinimal : List Clause → ℕ → Bool
+unfolding leastSmaller
+isMinimal P I = eqb (leastSmaller P I) I
 
 -- p-stable: live, and no smaller subset satisfies the reduct
 pub stable-leaf : (P : List Clause) (w : ℕ) → isStable P w ≡ not (dead P 0 w) && isMinimal P w

@@ -22,8 +22,8 @@ use Rattle.semantics.specs.Interpretations.{reduct, isModel, violates, smaller,
 use Rattle.stable.proofs.Readings.{apart-none}
 use Rattle.stable.proofs.Checking.{model-cons}
 use Rattle.search.specs.Tree.{dead}
-use Rattle.search.specs.Leaf.{rulesOut, isMinimal, Highest, smallerBetween}
-use Rattle.search.proofs.Nodes.{stable-leaf}
+use Rattle.search.specs.Leaf.{rulesOut, Highest, smallerBetween}
+use Rattle.search.proofs.Nodes.{isMinimal, stable-leaf}
 
 -- ---- words as sets
 in-or : (a b i : ℕ) → T (bit (bitOr a b) i) → T (bit a i) ⊎ T (bit b i)

@@ -3,12 +3,11 @@ use mathlib.Core.Path.{_≡_}
 use mathlib.Core.Bool.{Bool, cond, _&&_}
 use mathlib.Core.List.{List, [], _∷_}
 use Prim.Native.Nat.{ℕ, _+_, _-_, _^_, _≤_, _<_}
-use lib.Dec.{eqb}
 use lib.Bits.{bitAnd, bitOr}
 use Rattle.sets.specs.Lists.{some, below}
 use Rattle.sets.specs.Words.{inside, apart}
 use Rattle.program.specs.Clauses.{Clause}
-use Rattle.semantics.specs.Interpretations.{reduct, isModel, leastSmaller}
+use Rattle.semantics.specs.Interpretations.{reduct, isModel}
 
 -- the body lies in w, the not-part misses `by` and the head misses `reach`
 unfoldable pub rulesOut : ℕ → ℕ → ℕ → Clause → Bool
@@ -29,11 +28,6 @@ supportFrom w (c ∷ P) all = supportFrom w P (bitOr all (supports w c))
 unfoldable pub supported : List Clause → ℕ → ℕ
 unfolding supportFrom
 supported P w = supportFrom w P 0
-
--- no proper subset of I satisfies the reduct by I
-unfoldable pub isMinimal : List Clause → ℕ → Bool
-unfolding leastSmaller
-isMinimal P I = eqb (leastSmaller P I) I
 
 -- t is the highest bit of x
 pub record Highest (x t : ℕ) : Type 0 where

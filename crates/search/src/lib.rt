@@ -9,7 +9,7 @@ ghost use Rattle.program.specs.Clauses.{clauseOf, rowsOf};
 ghost use Rattle.semantics.specs.Interpretations.{isStable};
 ghost use Rattle.search.specs.Tree.{dead, nodes, isStableLeaf};
 ghost use Rattle.search.specs.Answer.{answer, Searches, Ends};
-ghost use Rattle.search.specs.Leaf.{rulesOut, supports, supported, isMinimal, Highest, smallerBetween};
+ghost use Rattle.search.specs.Leaf.{rulesOut, supports, supported, Highest, smallerBetween};
 ghost use Rattle.search.specs.Seek.{Placed, Ticked, Sought};
 use program::Program;
 
