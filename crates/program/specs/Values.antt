@@ -19,7 +19,7 @@ unfoldable pub clauseValue : Clause → ℕ → ℕ
 unfolding valueIn
 clauseValue c i = valueIn (c .head) i + 4 * valueIn (c .body) i + 16 * valueIn (c .naf) i
 
--- the word with these values, that of atom 0 first; the clause with these
+-- the word with these values, "name i (from 0) has bit 2i for itself and bit 2i+1 for its negation": that of atom 0 lowest; the clause with these
 unfoldable pub wordOf : List ℕ → ℕ
 wordOf [] = 0
 wordOf (v ∷ vs) = v + 4 * wordOf vs

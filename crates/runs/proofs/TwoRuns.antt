@@ -9,9 +9,9 @@ use lib.Dec.{leb, ltb}
 use lib.ListN.{length, take, drop, length-take}
 use lib.Seq.{take-at, take-all}
 use borrow.Author.Tests.{leb-true, leb-false, ltb-true, ltb-false}
-use Rattle.sets.specs.Lists.{_∈_, Rising, Begins}
+use Rattle.sets.specs.Lists.{Rising, Begins}
 use Rattle.sets.proofs.Tests.{clash}
-use Rattle.sets.proofs.Rising.{begins-self, begins-take, begins-both, begins-same}
+use Rattle.sets.proofs.Rising.{begins-self, begins-take, begins-both, begins-same, begins-rising}
 use Rattle.program.specs.declared.Program.{Program}
 use Rattle.program.specs.Clauses.{clauses}
 use Rattle.program.specs.Valid.{valid}
@@ -30,23 +30,6 @@ use Rattle.fixpoint.specs.Answer.{vocabulary, transformOf, roomOf, found, refus
 use Rattle.fixpoint.specs.Answer as fixpoint
 use Rattle.fixpoint.proofs.Lists.{found-models}
 use Rattle.runs.specs.Runs.{Run, searched, fixed, outcome, written, exit, listed, allModels, Enough, OneRun, TwoRuns}
-
--- ---- a first part of a rising list rises
-take-in : (n : ℕ) (l : List ℕ) (x : ℕ) → x ∈ take n l → x ∈ l
-take-in zero l x m = absurd m
-take-in (suc n) [] x m = absurd m
-take-in (suc n) (y ∷ l) x (inl e) = inl e
-take-in (suc n) (y ∷ l) x (inr k) = inr (take-in n l x k)
-
-take-rising : (n : ℕ) (l : List ℕ) → Rising l → Rising (take n l)
-unfolding Rising
-take-rising zero l r = tt
-take-rising (suc n) [] r = tt
-take-rising (suc n) (y ∷ l) r = (λ z m. r .0 z (take-in n l z m), take-rising n l (r .1))
-
-begins-rising : (a b : List ℕ) → Begins a b → Rising b → Rising a
-unfolding Begins
-begins-rising a b h r = subst Rising h (take-rising (length a) b r)
 
 not-complete : (n : ℕ) → _≡_ {A = Outcome} (Refused n) Complete → ⊥
 not-complete n e = let z : _≡_ {A = ℕ} 0 1 = cc in omega arith

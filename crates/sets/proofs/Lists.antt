@@ -8,7 +8,7 @@ use native.Mathlib.Nat.{zero-add, add-zero, add-suc, suc-add, sub-zero, not-suc-
 use native.Mathlib.Numerals.{add-one}
 use native.Mathlib.Omega.{arith}
 use lib.Dec.{T}
-use lib.ListN.{length, getD, take}
+use lib.ListN.{length, getD}
 use Rattle.sets.specs.Lists.{_∈_, Each, Some, every, some, sift, upFrom, onward, tabulate, below}
 use Rattle.sets.proofs.Tests.{clash, both-true, both-false, and-is-true, T?, T-true, true-T}
 
@@ -298,23 +298,7 @@ module _ {A : Type 0} where
   every-mono q p f [] h = refl
   every-mono q p f (x ∷ xs) h = let a = both-true (q x) (every q xs) h in rw (f x (a .0), every-mono q p f xs (a .1))
 
-  -- the first of f i, f (i + 1), ..
-  pub take-upFrom : (f : ℕ → A) (n k i : ℕ) → n ≤ k → take n (upFrom f k i) ≡ upFrom f n i
-  unfolding upFrom
-  take-upFrom f zero k i h = refl
-  take-upFrom f (suc n) zero i h = absurd (not-suc-le-zero h)
-  take-upFrom f (suc n) (suc k) i h = ap (λ (l : List A). f i ∷ l) (take-upFrom f n k (suc i) (le-of-suc-le-suc h))
-
-  pub take-tabulate : (f : ℕ → A) (n k : ℕ) → n ≤ k → take n (tabulate f k) ≡ tabulate f n
-  unfolding tabulate
-  take-tabulate f n k h = take-upFrom f n k 0 h
-
 module _ {A B : Type 0} where
-  pub every-map : (p : B → Bool) (g : A → B) (xs : List A) → every p (map g xs) ≡ every (λ x. p (g x)) xs
-  unfolding every
-  every-map p g [] = refl
-  every-map p g (x ∷ xs) = ap (λ b. p (g x) && b) (every-map p g xs)
-
   pub map-upFrom : (g : A → B) (f : ℕ → A) (k i : ℕ) → map g (upFrom f k i) ≡ upFrom (λ j. g (f j)) k i
   unfolding upFrom
   map-upFrom g f zero i = refl

@@ -1,5 +1,5 @@
 -- Laws of rising lists and of first parts. Assumes nothing.
-use mathlib.Core.Path.{_≡_, refl, sym, ap, ap₂, _∙_}
+use mathlib.Core.Path.{_≡_, refl, sym, ap, ap₂, _∙_, subst}
 use mathlib.Core.Logic.{_⊎_, inl, inr, ⊎-elim}
 use mathlib.Core.Bool.{Bool, true, false, cond}
 use mathlib.Core.List.{List, [], _∷_, _++_}
@@ -74,3 +74,20 @@ begins-same a b c p q e = sym p ∙ ap (λ n. take n c) e ∙ q
 pub begins-all : (a b : List ℕ) → Begins a b → length b ≤ length a → a ≡ b
 unfolding Begins
 begins-all a b h l = sym h ∙ take-all (length a) b l
+
+-- a first part of a rising list rises
+take-in : (n : ℕ) (l : List ℕ) (x : ℕ) → x ∈ take n l → x ∈ l
+take-in zero l x m = absurd m
+take-in (suc n) [] x m = absurd m
+take-in (suc n) (y ∷ l) x (inl e) = inl e
+take-in (suc n) (y ∷ l) x (inr k) = inr (take-in n l x k)
+
+take-rising : (n : ℕ) (l : List ℕ) → Rising l → Rising (take n l)
+unfolding Rising
+take-rising zero l r = tt
+take-rising (suc n) [] r = tt
+take-rising (suc n) (y ∷ l) r = (λ z m. r .0 z (take-in n l z m), take-rising n l (r .1))
+
+pub begins-rising : (a b : List ℕ) → Begins a b → Rising b → Rising a
+unfolding Begins
+begins-rising a b h r = subst Rising h (take-rising (length a) b r)

@@ -1,15 +1,11 @@
 -- The table of names and rows of values. Assumes nothing.
 use mathlib.Core.List.{List, [], _∷_, map, flatMap}
-use Prim.Native.Nat.{ℕ, _+_, _*_, _/_, _%_}
+use Prim.Native.Nat.{ℕ, _/_, _%_}
 use lib.ListN.{length, replicate}
 use Rattle.lists.specs.Bytes.{padded}
 use Rattle.program.specs.declared.Program.{Program}
 use Rattle.program.specs.Clauses.{Clause, clauseOf}
-
--- "name i (from 0) has bit 2i for itself and bit 2i+1 for its negation": the word of two bits for each name, the first name's lowest
-unfoldable pub wordOf : List ℕ → ℕ
-wordOf [] = 0
-wordOf (d ∷ ds) = d + 4 * wordOf ds
+use Rattle.program.specs.Values.{wordOf}
 
 -- the two bits of a value that count k and 2k
 unfoldable pub bitsOf : ℕ → ℕ → ℕ
