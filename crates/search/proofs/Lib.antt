@@ -1,5 +1,6 @@
 -- What is proved of the tree, of the runs over it and of the routines; `Runs` says what a reader wants to know.
 pub mod Nodes
+pub mod Packing
 pub mod Machine
 pub mod Seeking
 pub mod Visits

@@ -15,31 +15,32 @@ use Rattle.sets.specs.Lists.{some, upFrom, onward, tabulate}
 use Rattle.sets.specs.Words.{Inside, inside, apart}
 use Rattle.sets.proofs.Tests.{dec}
 use Rattle.sets.proofs.Lists.{Lacks, lacks-start, lacks-not, lacks-more, lacks-done, onward-start}
-use Rattle.program.specs.Clauses.{Clause, clauseOf, clauseAt, rowsOf}
+use Rattle.program.specs.Clauses.{Clause, clauseOf}
 use Rattle.semantics.specs.Interpretations.{isStable}
 use Rattle.search.specs.Tree.{decided, deadBy, dead}
+use Rattle.search.specs.Packed.{packedAt, packedRows}
 use Rattle.search.specs.Leaf.{rulesOut, supports, supportFrom, supported}
 use Rattle.search.specs.Seek.{Placed}
 use Rattle.search.proofs.Nodes.{and-reach}
 use Rattle.search.proofs.Supported.{unsupported}
 
 -- ---- a loop that looks for a clause that passes
-module _ (hs bs ns : List ℕ) (n : ℕ) (p : Clause → Bool) where
-  rows-from : some p (onward (clauseAt hs bs ns) n 0) ≡ some p (rowsOf hs bs ns n)
-  unfolding rowsOf
-  rows-from = ap (some p) (onward-start (clauseAt hs bs ns) n)
+module _ (t : List ℕ) (n : ℕ) (p : Clause → Bool) where
+  rows-from : some p (onward (packedAt t) n 0) ≡ some p (packedRows t n)
+  unfolding packedRows
+  rows-from = ap (some p) (onward-start (packedAt t) n)
 
-  pub look-start : Lacks (clauseAt hs bs ns) n p 0 0
-  look-start = lacks-start (clauseAt hs bs ns) n p 0
+  pub look-start : Lacks (packedAt t) n p 0 0
+  look-start = lacks-start (packedAt t) n p 0
 
-  pub look-on : (i : ℕ) {r : Bool} → Lacks (clauseAt hs bs ns) n p 0 i → i < n → r ≡ p (clauseAt hs bs ns i) → r ≡ false → Lacks (clauseAt hs bs ns) n p 0 (i + 1)
-  look-on i s h e t = lacks-more (clauseAt hs bs ns) n p 0 i s h (sym e ∙ t)
+  pub look-on : (i : ℕ) {r : Bool} → Lacks (packedAt t) n p 0 i → i < n → r ≡ p (packedAt t i) → r ≡ false → Lacks (packedAt t) n p 0 (i + 1)
+  look-on i s h e q = lacks-more (packedAt t) n p 0 i s h (sym e ∙ q)
 
-  pub look-hit : (i : ℕ) {r : Bool} → Lacks (clauseAt hs bs ns) n p 0 i → i < n → r ≡ p (clauseAt hs bs ns i) → r ≡ true → true ≡ some p (rowsOf hs bs ns n)
-  look-hit i s h e t = lacks-not (clauseAt hs bs ns) n p 0 i s h (sym e ∙ t) ∙ rows-from
+  pub look-hit : (i : ℕ) {r : Bool} → Lacks (packedAt t) n p 0 i → i < n → r ≡ p (packedAt t i) → r ≡ true → true ≡ some p (packedRows t n)
+  look-hit i s h e q = lacks-not (packedAt t) n p 0 i s h (sym e ∙ q) ∙ rows-from
 
-  pub look-none : (i : ℕ) → Lacks (clauseAt hs bs ns) n p 0 i → n ≤ i → false ≡ some p (rowsOf hs bs ns n)
-  look-none i s h = lacks-done (clauseAt hs bs ns) n p 0 i s h ∙ rows-from
+  pub look-none : (i : ℕ) → Lacks (packedAt t) n p 0 i → n ≤ i → false ≡ some p (packedRows t n)
+  look-none i s h = lacks-done (packedAt t) n p 0 i s h ∙ rows-from
 
 -- ---- the node test: every undecided bit is put into the word
 in-settled : (k w x : ℕ) → w % 2 ^ k ≡ 0 → decided k x && inside x w ≡ inside x w
@@ -111,23 +112,23 @@ module _ (h b n w x y : ℕ) (e : x ≡ bitAnd h w) (m : (y + 1) % 2 ^ 32 ≡ x)
   no-support z = rw (← e, sym tested ∙ ne-eqb _ 0 z)
 
 -- the loop that gathers the support of each clause
-pub record Gathered (hs bs ns : List ℕ) (n w i all : ℕ) : Type 0 where
+pub record Gathered (t : List ℕ) (n w i all : ℕ) : Type 0 where
   pub within : i ≤ n
-  pub whole : supportFrom w (onward (clauseAt hs bs ns) n i) all ≡ supported (rowsOf hs bs ns n) w
+  pub whole : supportFrom w (onward (packedAt t) n i) all ≡ supported (packedRows t n) w
 
-module _ (hs bs ns : List ℕ) (n w : ℕ) where
-  pub gather-none : Gathered hs bs ns n w 0 0
-  unfolding supported rowsOf
-  gather-none = record { within = omega arith; whole = ap (λ (P : List Clause). supportFrom w P 0) (onward-start (clauseAt hs bs ns) n) }
+module _ (t : List ℕ) (n w : ℕ) where
+  pub gather-none : Gathered t n w 0 0
+  unfolding supported packedRows
+  gather-none = record { within = omega arith; whole = ap (λ (P : List Clause). supportFrom w P 0) (onward-start (packedAt t) n) }
 
-  pub gather-one : (i all r : ℕ) → Gathered hs bs ns n w i all → i < n → r ≡ supports w (clauseAt hs bs ns i) → Gathered hs bs ns n w (i + 1) (bitOr all r)
+  pub gather-one : (i all r : ℕ) → Gathered t n w i all → i < n → r ≡ supports w (packedAt t i) → Gathered t n w (i + 1) (bitOr all r)
   unfolding supportFrom onward upFrom
   gather-one i all r g h e = record {
     within = omega arith;
     whole = let q : n - i ≡ suc (n - (i + 1)) = omega arith in rw (add-one i, e) (rw (q, add-one i) at (g .whole));
   }
 
-  pub gather-all : (i all : ℕ) → Gathered hs bs ns n w i all → n ≤ i → all ≡ supported (rowsOf hs bs ns n) w
+  pub gather-all : (i all : ℕ) → Gathered t n w i all → n ≤ i → all ≡ supported (packedRows t n) w
   unfolding supportFrom onward upFrom
   gather-all i all g h = let q : n - i ≡ 0 = omega arith in rw q at (g .whole)
 

@@ -1,5 +1,6 @@
 -- What `search` is handed at the needs of this crate. Assumes nothing.
 use borrow.Author.Needs.{needs}
+use Rattle.search.proofs.Packing.{pack-start, pack-more, pack-done}
 use Rattle.search.proofs.Loops.{look-start, look-on, look-hit, look-none, node-tested, ruled-out, is-support, no-support, gather-none, gather-one, gather-all, leaf-unsupported}
 use Rattle.search.proofs.Subsets.{branch-cut, branch-end, leaf-tested, all-open}
 use Rattle.search.proofs.Visits.{tick-before, tick-spent, tick-one, seek-passed, seek-spent, seek-dead, seek-unstable, seek-leaf}
@@ -8,6 +9,9 @@ use Rattle.search.proofs.Runs.{no-table, searched}
 
 -- at a clause and at a leaf; on the way through the tree; in a turn of the search
 pub ruleset rules = (
+  pack-start,
+  pack-more,
+  pack-done,
   look-start,
   look-on,
   look-hit,

@@ -25,6 +25,8 @@ use Rattle.search.specs.declared.Outcome.the-variants.{Complete, Full, S
 use Rattle.search.specs.declared.SearchAnswer.{SearchAnswer}
 use Rattle.search.specs.Tree.{Node, Dead, dead, tree, nodeCount, isStableLeaf, hits, stableLeaves}
 use Rattle.search.specs.Answer.{answer, overfull, fullAt, runAnswer, listing, runExit, leafOf, nodesOf, refusal, answerOf, exitOf, listed, refusedBy, Searches, Ends}
+use Rattle.search.specs.Packed.{packedRows, Packs}
+use Rattle.search.proofs.Packing.{packed-rows}
 use Rattle.search.proofs.Nodes.{hits-append, leaves-models, unstable-below, count-nodes}
 
 -- ---- the tree
@@ -185,10 +187,15 @@ module _ (p : Program) (A : ℕ) (l : List ℕ) where
   pub no-table : {v : Bool} {a : SearchAnswer} → v ≡ valid p → not v ≡ true → a ≡ answer (Refused 9) 0 0 → Searches p A l a l
   no-table {v} e h q = let r = refused (sym e ∙ not-true v h) in record { says = q ∙ sym (r .0); lists = sym (r .1) }
 
-  pub searched : {v : Bool} {a : SearchAnswer} {m : List ℕ} → v ≡ valid p → not v ≡ false
-      → Ends (dead (rowsOf (p .heads) (p .bodies) (p .nafs) (p .«clause_count»))) (rowsOf (p .heads) (p .bodies) (p .nafs) (p .«clause_count»)) (p .«atom_count») A l a m → Searches p A l a m
+  pub searched : {v : Bool} {a : SearchAnswer} {m t : List ℕ} → v ≡ valid p → not v ≡ false → Packs (p .heads) (p .bodies) (p .nafs) t
+      → Ends (dead (packedRows t (p .«clause_count»))) (packedRows t (p .«clause_count»)) (p .«atom_count») A l a m → Searches p A l a m
   unfolding clauses rows
-  searched {v} e h q = let r = accepted (sym e ∙ not-false v h) in record { says = q .says ∙ sym (r .0); lists = q .lists ∙ sym (r .1) }
+  searched {v} {a} {m} {t} e h k q =
+      let u = sym e ∙ not-false v h in
+      let r = accepted u in
+      let w : Ends (dead (rowsOf (p .heads) (p .bodies) (p .nafs) (p .«clause_count»))) (rowsOf (p .heads) (p .bodies) (p .nafs) (p .«clause_count»)) (p .«atom_count») A l a m =
+      rw (packed-rows (p .heads) (p .bodies) (p .nafs) t (p .«clause_count») k (valid-clauses p u .short)) at q in
+      record { says = w .says ∙ sym (r .0); lists = w .lists ∙ sym (r .1) }
 
 -- what the run asks of its table
 pub asks : (p : Program) {v : Bool} → v ≡ valid p → not v ≡ false → (p .«clause_count» ≤ 64) × (p .«atom_count» ≤ 12)

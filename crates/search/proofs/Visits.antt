@@ -40,6 +40,13 @@ placed-in k w v p h e = rw e (record {
   fits = omega (arith, p .fits, halved k h);
 })
 
+-- the word with every undecided bit, of the first child and of the second
+pub reach-out : (k w v bit reach : ℕ) → Placed k w → (k ≡ 0 → ⊥) → bit ≡ 2 ^ (k - 1) → reach ≡ w + (2 ^ k - 1) → v ≡ reach - bit → v ≡ w + (2 ^ (k - 1) - 1)
+reach-out k w v bit reach p h e q r = omega (arith, halved k h, pow-pos (k - 1))
+
+pub reach-in : (k w bit reach : ℕ) → (k ≡ 0 → ⊥) → bit ≡ 2 ^ (k - 1) → reach ≡ w + (2 ^ k - 1) → reach ≡ w + bit + (2 ^ (k - 1) - 1)
+reach-in k w bit reach h e q = omega (arith, halved k h, pow-pos (k - 1))
+
 pub placed-root : (n : ℕ) → n ≤ 12 → Placed (2 * n) 0
 placed-root n h = record {
   few = omega arith;

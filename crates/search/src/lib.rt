@@ -5,10 +5,11 @@ ghost use Prim.Native.Nat.{_+_, _-_, _*_, _^_, _≤_, _<_};
 ghost use lib.Bits.{bitOr};
 ghost use Rattle.sets.specs.Lists.{some};
 ghost use Rattle.sets.specs.Words.{Inside};
-ghost use Rattle.program.specs.Clauses.{clauseOf, rowsOf};
+ghost use Rattle.program.specs.Clauses.{clauseOf};
 ghost use Rattle.semantics.specs.Interpretations.{isStable};
 ghost use Rattle.search.specs.Tree.{dead, nodes, isStableLeaf};
 ghost use Rattle.search.specs.Answer.{answer, Searches, Ends};
+ghost use Rattle.search.specs.Packed.{packedRows, Packs};
 ghost use Rattle.search.specs.Leaf.{rulesOut, supports, supported, Highest, smallerBetween};
 ghost use Rattle.search.specs.Seek.{Placed, Ticked, Sought};
 use program::Program;
@@ -28,6 +29,22 @@ pub struct SearchAnswer {
     pub visited: u64,
 }
 
+// ---- the clauses in one array, which a recursion hands down as one reference
+// The heads in the first 64 places, then the bodies, then the not-parts.
+fn pack<'a>(heads: &'a [u32; 64], bodies: &'a [u32; 64], nafs: &'a [u32; 64]) -> [u32; 192]
+    ensures { λ r. ⌜ Packs (now (heads .entry)) (now (bodies .entry)) (now (nafs .entry)) r ⌝ }
+{
+    let mut table = [0u32; 192];
+    let mut i: usize = 0;
+    while i < 64 {
+        table[i] = heads[i];
+        table[64 + i] = bodies[i];
+        table[128 + i] = nafs[i];
+        i += 1;
+    }
+    table
+}
+
 // ---- clauses that rule out every word from `w` up to `reach`
 // Whether the body lies in `w`, the not-part misses `by` and the head misses `reach`; one test, since three are three branches.
 fn rules_out(head: u32, body: u32, naf: u32, by: u32, w: u32, reach: u32) -> bool
@@ -37,21 +54,13 @@ fn rules_out(head: u32, body: u32, naf: u32, by: u32, w: u32, reach: u32) -> boo
 }
 
 // Whether that is so of some clause.
-fn some_rules_out<'a>(
-    heads: &'a [u32; 64],
-    bodies: &'a [u32; 64],
-    nafs: &'a [u32; 64],
-    count: usize,
-    by: u32,
-    w: u32,
-    reach: u32,
-) -> bool
+fn some_rules_out(table: &[u32; 192], count: usize, by: u32, w: u32, reach: u32) -> bool
     requires { ⌜ count ≤ 64 ⌝ }
-    ensures { λ r. ⌜ r ≡ some (rulesOut by w reach) (rowsOf (now (heads .entry)) (now (bodies .entry)) (now (nafs .entry)) count) ⌝ }
+    ensures { λ r. ⌜ r ≡ some (rulesOut by w reach) (packedRows (now (table .entry)) count) ⌝ }
 {
     let mut i: usize = 0;
     while i < count {
-        if rules_out(heads[i], bodies[i], nafs[i], by, w, reach) {
+        if rules_out(table[i], table[64 + i], table[128 + i], by, w, reach) {
             return true;
         }
         i += 1;
@@ -68,20 +77,12 @@ fn with_undecided(k: usize, w: u32) -> u32
     w + ((1 << k) - 1)
 }
 
-// Whether the node is dead.
-fn node_dead<'a>(
-    heads: &'a [u32; 64],
-    bodies: &'a [u32; 64],
-    nafs: &'a [u32; 64],
-    count: usize,
-    k: usize,
-    w: u32,
-) -> bool
-    requires { ⌜ (count ≤ 64) × Placed k w ⌝ }
-    ensures { λ r. ⌜ r ≡ dead (rowsOf (now (heads .entry)) (now (bodies .entry)) (now (nafs .entry)) count) k w ⌝ }
+// Whether the node is dead, where `reach` is the word with every undecided bit.
+fn node_dead(table: &[u32; 192], count: usize, k: usize, w: u32, reach: u32) -> bool
+    requires { ⌜ (count ≤ 64) × Placed k w × (reach ≡ w + (2 ^ k - 1)) ⌝ }
+    ensures { λ r. ⌜ r ≡ dead (packedRows (now (table .entry)) count) k w ⌝ }
 {
-    let reach = with_undecided(k, w);
-    some_rules_out(heads, bodies, nafs, count, reach, w, reach)
+    some_rules_out(table, count, reach, w, reach)
 }
 
 // ---- the leaf test
@@ -98,20 +99,14 @@ fn support(head: u32, body: u32, naf: u32, w: u32) -> u32
 }
 
 // The literals of `w` that some clause supports.
-fn support_of<'a>(
-    heads: &'a [u32; 64],
-    bodies: &'a [u32; 64],
-    nafs: &'a [u32; 64],
-    count: usize,
-    w: u32,
-) -> u32
+fn support_of(table: &[u32; 192], count: usize, w: u32) -> u32
     requires { ⌜ count ≤ 64 ⌝ }
-    ensures { λ r. ⌜ r ≡ supported (rowsOf (now (heads .entry)) (now (bodies .entry)) (now (nafs .entry)) count) w ⌝ }
+    ensures { λ r. ⌜ r ≡ supported (packedRows (now (table .entry)) count) w ⌝ }
 {
     let mut all: u32 = 0;
     let mut i: usize = 0;
     while i < count {
-        all = all | support(heads[i], bodies[i], nafs[i], w);
+        all = all | support(table[i], table[64 + i], table[128 + i], w);
         i += 1;
     }
     all
@@ -127,19 +122,11 @@ fn highest(x: u32) -> u32
 
 // Whether a proper subset of `by` satisfies the reduct by it, among those that hold `held` and of the rest only bits of `undecided`.
 // The bits of `undecided` are decided from the highest, out before in; a branch is left where a clause is violated by all below it.
-fn has_smaller<'a>(
-    heads: &'a [u32; 64],
-    bodies: &'a [u32; 64],
-    nafs: &'a [u32; 64],
-    count: usize,
-    by: u32,
-    held: u32,
-    undecided: u32,
-) -> bool
+fn has_smaller(table: &[u32; 192], count: usize, by: u32, held: u32, undecided: u32) -> bool
     requires { ⌜ (count ≤ 64) × Inside (bitOr held undecided) by ⌝ }
-    ensures { λ r. ⌜ r ≡ smallerBetween (rowsOf (now (heads .entry)) (now (bodies .entry)) (now (nafs .entry)) count) by held undecided ⌝ }
+    ensures { λ r. ⌜ r ≡ smallerBetween (packedRows (now (table .entry)) count) by held undecided ⌝ }
 {
-    if some_rules_out(heads, bodies, nafs, count, by, held, held | undecided) {
+    if some_rules_out(table, count, by, held, held | undecided) {
         return false;
     }
     if undecided == 0 {
@@ -147,37 +134,31 @@ fn has_smaller<'a>(
     }
     let top = highest(undecided);
     let rest = undecided - top;
-    if has_smaller(heads, bodies, nafs, count, by, held, rest) {
+    if has_smaller(table, count, by, held, rest) {
         return true;
     }
-    has_smaller(heads, bodies, nafs, count, by, held | top, rest)
+    has_smaller(table, count, by, held | top, rest)
 }
 
 // Whether a live leaf is p-stable: its literals are supported, and no smaller subset satisfies the reduct.
-fn leaf_stable<'a>(
-    heads: &'a [u32; 64],
-    bodies: &'a [u32; 64],
-    nafs: &'a [u32; 64],
-    count: usize,
-    w: u32,
-) -> bool
+fn leaf_stable(table: &[u32; 192], count: usize, w: u32) -> bool
     requires { ⌜ count ≤ 64 ⌝ }
-    requires { ⌜ dead (rowsOf (now heads) (now bodies) (now nafs) count) 0 w ≡ false ⌝ }
-    ensures { λ r. ⌜ r ≡ isStable (rowsOf (now (heads .entry)) (now (bodies .entry)) (now (nafs .entry)) count) w ⌝ }
+    requires { ⌜ dead (packedRows (now table) count) 0 w ≡ false ⌝ }
+    ensures { λ r. ⌜ r ≡ isStable (packedRows (now (table .entry)) count) w ⌝ }
 {
-    if w & support_of(heads, bodies, nafs, count, w) != w {
+    if w & support_of(table, count, w) != w {
         return false;
     }
-    !has_smaller(heads, bodies, nafs, count, w, 0, w)
+    !has_smaller(table, count, w, 0, w)
 }
 
 // ---- the tree
-// The word of a node's second child: bit k-1 is in.
-fn with_next(k: usize, w: u32) -> u32
-    requires { ⌜ Placed k w × (k ≡ 0 → ⊥) ⌝ }
-    ensures { λ r. ⌜ r ≡ w + 2 ^ (k - 1) ⌝ }
+// Bit k-1, which the second child of a node has and the first has not.
+fn next_bit(k: usize) -> u32
+    requires { ⌜ (k ≤ 24) × (k ≡ 0 → ⊥) ⌝ }
+    ensures { λ r. ⌜ r ≡ 2 ^ (k - 1) ⌝ }
 {
-    w + (1 << (k - 1))
+    1 << (k - 1)
 }
 
 // Counts the node of the word `w`, unless it was visited before, as those below `from` were; whether the limit forbids it.
@@ -202,60 +183,41 @@ const SPENT: u32 = 0xffff_fffe;
 
 // The first p-stable leaf below the node whose word is at least `from`, where the nodes below `from` were visited before.
 // The list is not handed down: only references and numbers are, since a slice or a struct is copied at each call.
-fn seek<'a>(
-    heads: &'a [u32; 64],
-    bodies: &'a [u32; 64],
-    nafs: &'a [u32; 64],
+// So is `reach`, the word with every undecided bit, since a shift at each node costs more.
+fn seek(
+    table: &[u32; 192],
     count: usize,
     k: usize,
     w: u32,
+    reach: u32,
     from: u32,
-    node_limit: u64,
+    limit: u64,
     visited: &mut u64,
 ) -> u32
-    requires { ⌜ (count ≤ 64) × Placed k w ⌝ }
-    ensures { λ r. ⌜ Sought (isStableLeaf (dead (rowsOf (now (heads .entry)) (now (bodies .entry)) (now (nafs .entry)) count)) (rowsOf (now (heads .entry)) (now (bodies .entry)) (now (nafs .entry)) count)) «node_limit» from (nodes (dead (rowsOf (now (heads .entry)) (now (bodies .entry)) (now (nafs .entry)) count)) k w) (now (visited .entry)) r (now (visited .exit)) ⌝ }
+    requires { ⌜ (count ≤ 64) × Placed k w × (reach ≡ w + (2 ^ k - 1)) ⌝ }
+    ensures { λ r. ⌜ Sought (isStableLeaf (dead (packedRows (now (table .entry)) count)) (packedRows (now (table .entry)) count)) limit from (nodes (dead (packedRows (now (table .entry)) count)) k w) (now (visited .entry)) r (now (visited .exit)) ⌝ }
 {
-    if with_undecided(k, w) < from {
+    if reach < from {
         return NONE;
     }
-    if tick(w, from, node_limit, visited) {
+    if tick(w, from, limit, visited) {
         return SPENT;
     }
-    if node_dead(heads, bodies, nafs, count, k, w) {
+    if node_dead(table, count, k, w, reach) {
         return NONE;
     }
     if k == 0 {
-        if leaf_stable(heads, bodies, nafs, count, w) {
+        if leaf_stable(table, count, w) {
             return w;
         }
         return NONE;
     }
-    let first = seek(
-        heads,
-        bodies,
-        nafs,
-        count,
-        k - 1,
-        w,
-        from,
-        node_limit,
-        visited,
-    );
+    let bit = next_bit(k);
+    let first = seek(table, count, k - 1, w, reach - bit, from, limit, visited);
     if first != NONE {
         return first;
     }
-    seek(
-        heads,
-        bodies,
-        nafs,
-        count,
-        k - 1,
-        with_next(k, w),
-        from,
-        node_limit,
-        visited,
-    )
+    seek(table, count, k - 1, w + bit, reach, from, limit, visited)
 }
 
 fn ended(outcome: Outcome, written: usize, visited: u64) -> SearchAnswer
@@ -269,34 +231,23 @@ fn ended(outcome: Outcome, written: usize, visited: u64) -> SearchAnswer
 }
 
 // The search over `n` atoms: each turn seeks one model and writes it.
-fn search_clauses<'a>(
-    heads: &'a [u32; 64],
-    bodies: &'a [u32; 64],
-    nafs: &'a [u32; 64],
+fn search_clauses(
+    table: &[u32; 192],
     count: usize,
     n: usize,
     node_limit: u64,
     models: &mut [u32],
 ) -> SearchAnswer
     requires { ⌜ (count ≤ 64) × (n ≤ 12) ⌝ }
-    ensures { λ r. ⌜ Ends (dead (rowsOf (now (heads .entry)) (now (bodies .entry)) (now (nafs .entry)) count)) (rowsOf (now (heads .entry)) (now (bodies .entry)) (now (nafs .entry)) count) n «node_limit» (now (models .entry)) r (now (models .exit)) ⌝ }
+    ensures { λ r. ⌜ Ends (dead (packedRows (now (table .entry)) count)) (packedRows (now (table .entry)) count) n «node_limit» (now (models .entry)) r (now (models .exit)) ⌝ }
 {
     let k = 2 * n;
+    let reach = with_undecided(k, 0);
     let mut written: usize = 0;
     let mut visited: u64 = 0;
     let mut from: u32 = 0;
     loop {
-        let w = seek(
-            heads,
-            bodies,
-            nafs,
-            count,
-            k,
-            0,
-            from,
-            node_limit,
-            &mut visited,
-        );
+        let w = seek(table, count, k, 0, reach, from, node_limit, &mut visited);
         if w == NONE {
             return ended(Outcome::Complete, written, visited);
         }
@@ -312,7 +263,7 @@ fn search_clauses<'a>(
     }
 }
 
-// The search of a table, by value: its arrays are lent from here on.
+// The search of a table, by value: its clauses are packed once and lent from here on.
 pub fn search(p: Program, node_limit: u64, models: &mut [u32]) -> SearchAnswer
     ensures { λ r. ⌜ Searches p «node_limit» (now (models .entry)) r (now (models .exit)) ⌝ }
 {
@@ -321,5 +272,6 @@ pub fn search(p: Program, node_limit: u64, models: &mut [u32]) -> SearchAnswer
     }
     let n = p.atom_count;
     let count = p.clause_count;
-    search_clauses(&p.heads, &p.bodies, &p.nafs, count, n, node_limit, models)
+    let table = pack(&p.heads, &p.bodies, &p.nafs);
+    search_clauses(&table, count, n, node_limit, models)
 }

@@ -14,7 +14,7 @@ use Rattle.search.proofs.+has_smaller.{statement}
 use Rattle.search.proofs.+has_smaller.Tie.{close}
 
 abbrev μ-has-smaller : Measures 1 has-smaller-kinds.ps ℕ
-μ-has-smaller κs a = a .1 .1 .1 .1 .1 .1 .0
+μ-has-smaller κs a = a .1 .1 .1 .1 .0
 
 abbrev at : ℕ → In 1 has-smaller-kinds.ps
 at t = and 1 has-smaller-kinds.ps (is 1 has-smaller-kinds.ps μ-has-smaller t) has-smaller.Pre

@@ -1,17 +1,17 @@
 -- `search::some_rules_out` meets its contract. Assumes nothing.
 use Prim.Native.Nat.{_-_}
 use Rattle.sets.proofs.Lists.{Lacks}
-use Rattle.program.specs.Clauses.{clauseAt}
+use Rattle.search.specs.Packed.{packedAt}
 use Rattle.search.specs.Leaf.{rulesOut}
 use Rattle.search.proofs.Rules.{rules}
 use Rattle.search.proofs.some_rules_out.Statement.{statement}
 use Rattle.search.proofs.some_rules_out.Tie as tie
 
 abbrev Inv-loop : tie.InvT-loop
-Inv-loop heads bodies nafs count by w reach i₀ i = Lacks (clauseAt heads bodies nafs) count (rulesOut by w reach) 0 i
+Inv-loop table count by w reach i₀ i = Lacks (packedAt table) count (rulesOut by w reach) 0 i
 
 abbrev μ-loop : tie.MeasureT-loop
-μ-loop heads bodies nafs count by w reach i₀ i = count - i
+μ-loop table count by w reach i₀ i = count - i
 
 pub some-rules-out-spec : {M : Type 1} → statement M
-some-rules-out-spec = tie.close (tie.spec Inv-loop μ-loop (λ c. search rules) (λ c. search rules) (λ c. search rules) (λ c. search rules) (λ c. search rules) (λ c. search rules) (λ c. search rules) (λ c. search rules) (λ c. search rules) (λ c. search rules) (λ c. search rules) (λ c. search rules) (λ c. search rules))
+some-rules-out-spec = tie.close (tie.spec Inv-loop μ-loop (λ c. search rules) (λ c. search rules) (λ c. search rules) (λ c. search rules) (λ c. search rules) (λ c. search rules) (λ c. search rules) (λ c. search rules) (λ c. search rules) (λ c. search rules) (λ c. search rules) (λ c. search rules) (λ c. search rules) (λ c. search rules) (λ c. search rules))

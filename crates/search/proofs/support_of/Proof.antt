@@ -6,10 +6,10 @@ use Rattle.search.proofs.support_of.Statement.{statement}
 use Rattle.search.proofs.support_of.Tie as tie
 
 abbrev Inv-loop : tie.InvT-loop
-Inv-loop heads bodies nafs count w all₀ i₀ all i = Gathered heads bodies nafs count w i all
+Inv-loop table count w all₀ i₀ all i = Gathered table count w i all
 
 abbrev μ-loop : tie.MeasureT-loop
-μ-loop heads bodies nafs count w all₀ i₀ all i = count - i
+μ-loop table count w all₀ i₀ all i = count - i
 
 pub support-of-spec : {M : Type 1} → statement M
-support-of-spec = tie.close (tie.spec Inv-loop μ-loop (λ c. search rules) (λ c. search rules) (λ c. search rules) (λ c. search rules) (λ c. search rules) (λ c. search rules) (λ c. search rules) (λ c. search rules) (λ c. search rules) (λ c. search rules) (λ c. search rules) (λ c. search rules))
+support-of-spec = tie.close (tie.spec Inv-loop μ-loop (λ c. search rules) (λ c. search rules) (λ c. search rules) (λ c. search rules) (λ c. search rules) (λ c. search rules) (λ c. search rules) (λ c. search rules) (λ c. search rules) (λ c. search rules) (λ c. search rules) (λ c. search rules) (λ c. search rules) (λ c. search rules))
