@@ -1,0 +1,2 @@
+-- What the loops of the trials keep. Assumes nothing.
+pub mod Rules

@@ -1,0 +1,510 @@
+#!/usr/bin/env python3
+"""make_trials.py: writes the records that crates/trials tries, into crates/trials/data.
+
+Needs clingo (Debian's package gringo). The same seed and the same clingo give the same files; VERSION names both.
+A record is a line with its label, the text of a book, an equals sign, numbers with a space between, and the line's end.
+
+  samples     the books of document 01, each with its models
+  paper       the worked examples of the paper, labelled by their numbers there, each with its models
+  refusals    texts, each with the number that refuses it, 0 where it is taken
+  vocabulary  books, each with the number that refuses its fixpoint, 0 where W is at most 64
+  rooms       books, each with the number of members of its largest stage, formed here by its definition
+  tables      a book, a field of its table, a place in it and a value put there, and 9 or 0 where the table is then still one that the reader could give
+  solver      random books of several kinds, each with the models that clingo gives of its positive form (Proposition 3.13)
+"""
+import itertools
+import os
+import random
+import subprocess
+import sys
+
+SEED = 20261115
+MOST_MODELS = 300
+LARGE_STAGE = 2000
+MOST_LARGE = 3
+HERE = os.path.dirname(os.path.abspath(__file__))
+DATA = os.path.join(HERE, '..', 'crates', 'trials', 'data')
+
+
+# ---- books: a list of names and a list of clauses, each a list of values
+
+def text_of(names, clauses):
+    lines = [' '.join(names)] + [' '.join(str(v) for v in c) for c in clauses]
+    return ''.join(line + '\n' for line in lines)
+
+
+def part(values, name_bit, negation_bit):
+    """The literals of one part of a clause: 2i for name i, 2i + 1 for its negation."""
+    found = []
+    for i, v in enumerate(values):
+        if v & name_bit:
+            found.append(2 * i)
+        if v & negation_bit:
+            found.append(2 * i + 1)
+    return found
+
+
+def parts(values):
+    return part(values, 1, 2), part(values, 4, 8), part(values, 16, 32)
+
+
+def word(values):
+    return sum(v << (2 * i) for i, v in enumerate(values))
+
+
+# ---- the outside solver
+
+def positive_form(clauses):
+    """The program with an atom for each literal, as clingo reads it."""
+    lines = []
+    for values in clauses:
+        head, body, naf = parts(values)
+        right = [f'l{b}' for b in body] + [f'not l{b}' for b in naf]
+        left = ' | '.join(f'l{b}' for b in head)
+        lines.append(left + (' :- ' + ', '.join(right) if right else '') + '.')
+    return '\n'.join(lines)
+
+
+def solve(clauses):
+    """The words of the stable models of the positive form, rising; None where there are more than MOST_MODELS."""
+    run = subprocess.run(['clingo', '-n', str(MOST_MODELS + 1), '--verbose=0', '-Wnone'],
+                         input=positive_form(clauses), capture_output=True, text=True)
+    if run.returncode not in (10, 20, 30):
+        sys.exit(f'clingo failed: {run.stderr}')
+    found = []
+    for line in run.stdout.split('\n')[:-1]:
+        if line == 'SATISFIABLE' or line == 'UNSATISFIABLE':
+            continue
+        found.append(sum(1 << int(atom[1:]) for atom in line.split()))
+    if run.returncode == 20:
+        found = []
+    return sorted(found) if len(found) <= MOST_MODELS else None
+
+
+# ---- the stages of the transform, by their definition
+
+def transformed(n, clauses):
+    """The clauses (a) to (d) as pairs of sets; a literal b, its K at 2n + b, stand-ins from 4n on."""
+    rules, free = [], 4 * n
+    for values in clauses:
+        head, body, naf = parts(values)
+        if not naf:
+            rules.append((frozenset(head), frozenset(body)))
+            continue
+        stand = list(range(free, free + len(head)))
+        free += len(head)
+        rules.append((frozenset(stand + [2 * n + b for b in naf]), frozenset(body)))
+        for s, h in zip(stand, head):
+            rules.append((frozenset([h]), frozenset([s])))
+            rules += [(frozenset(), frozenset([s, b])) for b in naf]
+            rules += [(frozenset([s]), frozenset([h, t])) for t in stand if t != s]
+    return rules, free
+
+
+def following(rules, stage, most):
+    result = set()
+    for i in stage:
+        if any(not h and b <= i for h, b in rules):
+            continue
+        found = {i}
+        for h, b in rules:
+            if b <= i:
+                found = {j | {x} for j in found for x in h}
+        result |= found
+        if len(result) > most:
+            return None
+    return result
+
+
+def largest_stage(n, clauses, most):
+    """The number of members of the largest stage up to the one that ends the run; None above most."""
+    rules, _ = transformed(n, clauses)
+    stage, largest = {frozenset()}, 1
+    while True:
+        after = following(rules, stage, most)
+        if after is None:
+            return None
+        largest = max(largest, len(after))
+        if after == stage:
+            return largest
+        stage = after
+
+
+# ---- random books
+
+def names_for(rng, n):
+    names = []
+    while len(names) < n:
+        first = rng.choice('abcdefghijklmnopqrstuvwxyz')
+        name = first + ''.join(rng.choice('abcdefghijklmnopqrstuvwxyz0123456789') for _ in range(rng.choice([0, 0, 1, 3, 7])))
+        if name not in names:
+            names.append(name)
+    return names
+
+
+def clause(n, head, body, naf):
+    values = [0] * n
+    for literals, bit in ((head, 1), (body, 4), (naf, 16)):
+        for b in literals:
+            values[b // 2] |= bit << (b % 2)
+    return values
+
+
+def some_of(rng, n, low, high):
+    return rng.sample(range(2 * n), min(2 * n, rng.randint(low, high)))
+
+
+def dense(rng):
+    n, p = rng.randint(1, 4), rng.choice([0.1, 0.2, 0.3])
+    return n, [[sum(1 << b for b in range(6) if rng.random() < p) for _ in range(n)] for _ in range(rng.randint(0, 12))]
+
+
+def disjunctions(rng):
+    n = rng.randint(3, 8)
+    return n, [clause(n, some_of(rng, n, 1, 3), some_of(rng, n, 0, 1), []) for _ in range(rng.randint(2, 9))]
+
+
+def loops(rng):
+    n = rng.randint(3, 8)
+    ring = some_of(rng, n, 2, 2 * n)
+    around = [clause(n, [b] + some_of(rng, n, 0, 1), [ring[k - 1]], []) for k, b in enumerate(ring)]
+    return n, around + [clause(n, some_of(rng, n, 1, 2), [], some_of(rng, n, 0, 1)) for _ in range(rng.randint(1, 4))]
+
+
+def constraints(rng):
+    n = rng.randint(3, 7)
+    either = [clause(n, [2 * i, 2 * i + 1], [], []) for i in rng.sample(range(n), rng.randint(1, n))]
+    return n, either + [clause(n, [], some_of(rng, n, 1, 2), some_of(rng, n, 0, 1)) for _ in range(rng.randint(1, 6))]
+
+
+def defaults(rng):
+    n = rng.randint(3, 8)
+    return n, [clause(n, some_of(rng, n, 1, 2), some_of(rng, n, 0, 1), some_of(rng, n, 1, 2)) for _ in range(rng.randint(2, 9))]
+
+
+def mixed(rng, n, count):
+    made = []
+    for _ in range(count):
+        made.append(clause(n, some_of(rng, n, 0, 2), some_of(rng, n, 0, 2), some_of(rng, n, 0, 1) if rng.random() < 0.3 else []))
+    return n, made
+
+
+def few(rng):
+    return 12, [clause(12, some_of(rng, 12, 1, 3), some_of(rng, 12, 0, 1), some_of(rng, 12, 0, 1)) for _ in range(rng.randint(2, 6))]
+
+
+def many(rng):
+    facts = [clause(12, some_of(rng, 12, 1, 2), [], []) for _ in range(4)]
+    bars = [clause(12, [], some_of(rng, 12, 2, 3), []) for _ in range(rng.randint(0, 3))]
+    rest = 64 - len(facts) - len(bars)
+    return 12, facts + bars + [clause(12, some_of(rng, 12, 1, 2), some_of(rng, 12, 1, 3), some_of(rng, 12, 1, 1) if rng.random() < 0.15 else []) for _ in range(rest)]
+
+
+KINDS = [
+    ('dense', 900, dense),
+    ('disjunction', 300, disjunctions),
+    ('loop', 300, loops),
+    ('constraint', 300, constraints),
+    ('default', 300, defaults),
+    ('ten', 30, lambda rng: mixed(rng, rng.randint(9, 10), rng.randint(8, 24))),
+    ('few', 6, few),
+    ('many', 12, many),
+]
+
+
+def is_large(n, clauses):
+    """Whether the fixpoint has to form a stage of more than LARGE_STAGE members."""
+    return transformed(n, clauses)[1] <= 64 and largest_stage(n, clauses, LARGE_STAGE) is None
+
+
+def random_books(kind, count, make):
+    """The books of a kind with their models. Passed over: a line of zeros, too many models, and large stages but for a few, which take long."""
+    rng = random.Random(f'{SEED} {kind}')
+    k, large = 0, 0
+    while k < count:
+        n, clauses = make(rng)
+        if any(not any(c) for c in clauses):
+            continue
+        models = solve(clauses)
+        if models is None:
+            continue
+        if is_large(n, clauses):
+            if large == MOST_LARGE:
+                continue
+            large += 1
+        k += 1
+        yield f'{kind} {k}', names_for(rng, n), clauses, models
+
+
+# ---- the books of document 01 and of the paper
+
+def rows(line):
+    return [[int(v) for v in c.split()] for c in line.split('/')] if line else []
+
+
+SAMPLES = [
+    ('report', 'fell due', '1 0 / 2 0 / 16 1', '3 0'),
+    ('first', 'a b c', '1 1 0 / 2 0 0 / 0 2 0 / 0 0 1', '3 2 1 / 2 3 1'),
+    ('second', 'a b', '17 0 / 0 1', ''),
+    ('third', 'a b c', '2 1 0 / 1 0 8 / 0 0 18', '3 0 2 / 1 1 2'),
+    ('fourth', 'a b', '2 0 / 1 16', '3 0'),
+    ('fifth', 'a b', '1 0 / 2 0 / 0 17', ''),
+    ('sixth', 'a', '4', '0'),
+    ('seventh', 'a', '2', '2'),
+    ('eighth', 'a', '1 / 4', ''),
+    ('ninth', 'a b c', '1 1 16 / 0 1 0', '0 1 0'),
+    ('tenth', 'a b c', '1 0 0 / 0 1 0 / 16 16 1', '1 1 0'),
+    ('no clause', 'a', '', '0'),
+]
+
+PAPER = [
+    ('2.5', 'a b c', '1 1 0 / 2 0 0 / 0 2 0 / 0 0 1', '3 2 1 / 2 3 1'),
+    ('2.8', 'a b c d', '1 1 4 0 / 0 0 4 2 / 0 0 1 0 / 4 4 0 0', '1 0 1 2 / 0 1 1 2'),
+    ('2.11', 'a b c d', '1 1 4 0 / 0 0 4 2 / 0 0 1 0 / 4 4 0 0', '1 0 1 2 / 0 1 1 2'),
+    ('3.2', 'a b c d', '1 1 0 0 / 2 0 0 0 / 0 2 0 0 / 0 0 1 16', '3 2 1 0 / 2 3 1 0'),
+    ('3.3', 'a b', '17 0 / 0 1', ''),
+    ('3.8', 'a b c', '2 1 0 / 1 0 8 / 0 0 18', '3 0 2 / 1 1 2'),
+    ('3.12 first', 'a b', '2 0 / 1 16', '3 0'),
+    ('3.12 second', 'a b', '1 0 / 2 0 / 0 17', ''),
+    ('4.1', 'a b c', '2 1 0 / 1 0 8 / 0 0 18', '3 0 2 / 1 1 2'),
+    ('4.3', 'a b c d', '1 4 16 0 / 0 1 0 0 / 0 2 0 0 / 0 0 0 1', '1 3 0 1'),
+    ('4.10', 'nn nc cn cc mn mc', '17 0 0 0 0 0 / 0 1 0 16 0 0 / 0 0 0 0 0 1', ''),
+]
+
+
+def written_out(table):
+    for label, names, clauses, models in table:
+        yield label, names.split(), rows(clauses), sorted(word(m) for m in rows(models))
+
+
+# ---- texts that are refused, and texts at the edges that are taken
+
+TWELVE = ' '.join('abcdefghijkl')
+ROW = ' '.join(['1'] + ['0'] * 11)
+
+
+def book(names, *lines):
+    return ''.join(line + '\n' for line in (names,) + lines)
+
+
+SINGLE = [
+    (1, ''),
+    (1, book('a', *['1'] * 2047) + '1\n'),
+    (1, 'a' * 4097),
+    (1, '\n' * 4097),
+    (1, book(TWELVE, *[ROW] * 64) + 'x' * 4000),
+    (2, 'a'),
+    (2, book('a b', '1 0') + '0 1'),
+    (2, 'a' * 4096),
+    (2, '\n a'),
+    (2, book('a', '1') + ' '),
+    (3, book('A')),
+    (3, book('a', '+1')),
+    (3, book('a', '1\t')),
+    (3, book('a', '1\r')),
+    (3, book('a', '-1')),
+    (3, book('a b', '1 0', '0 1,')),
+    (3, book('a', '1') + '\x00\n'),
+    (3, book('a{', '1')),
+    (3, book('a`', '1')),
+    (3, book('a/', '1')),
+    (3, book('a', '1:')),
+    (4, book('a', *['1'] * 65)),
+    (4, '\n' * 66),
+    (4, '\n' * 4096),
+    (4, book(TWELVE, *[ROW] * 65)),
+    (5, book('')),
+    (5, book(' a', '1')),
+    (5, book('a ', '1 0')),
+    (5, book('a  b', '1 0')),
+    (5, book('1a', '1')),
+    (5, book('0', '1')),
+    (5, book('abcdefghi', '1')),
+    (5, book('a abcdefgh9', '1 0')),
+    (5, book(TWELVE + ' m', ROW + ' 0')),
+    (5, book('a' * 4095)),
+    (6, book('a a', '1 0')),
+    (6, book('a b a')),
+    (6, book('abcdefgh b abcdefgh', '1 0 0')),
+    (6, book('a b c d e f g h i j k a', ROW)),
+    (7, book('a', '')),
+    (7, book('a', '64')),
+    (7, book('a', '00')),
+    (7, book('a', '01')),
+    (7, book('a', '063')),
+    (7, book('a', '100')),
+    (7, book('a', '18446744073709551617')),
+    (7, book('a', '1 ')),
+    (7, book('a', ' 1')),
+    (7, book('a b', '1')),
+    (7, book('a b', '1 0 0')),
+    (7, book('a b', '1  0')),
+    (7, book('a b', '1 b')),
+    (7, book('a', '1', '', '1')),
+    (7, book('a', *(['1'] * 63 + ['64']))),
+    (8, book('a', '0')),
+    (8, book('a b', '1 0', '0 0')),
+    (8, book(TWELVE, *([ROW] * 63 + [' '.join(['0'] * 12)]))),
+    (0, book('a')),
+    (0, book('a', '63')),
+    (0, book('z9', '1')),
+    (0, book('abcdefgh', '1')),
+    (0, book('a0123456 a0123457', '1 0')),
+    (0, book(TWELVE)),
+    (0, book(TWELVE, *[ROW] * 64)),
+    (0, book('a', *['1'] * 64)),
+    (0, book(' '.join('abcdefg' + x for x in 'abcdefghijkl'), *[' '.join(['63'] * 12)] * 64)),
+    (0, book('from to', '1 0')),
+]
+
+
+def faulty(faults):
+    """A text with each of the faults 1 to 8 that is asked for; 6 and 5 share the names line."""
+    names = ['a', 'b', 'c']
+    if 6 in faults:
+        names[2] = 'a'
+    if 5 in faults:
+        names[1] = '9b'
+    lines = ['1 0 0', '0 16 1']
+    if 8 in faults:
+        lines.insert(0, '0 0 0')
+    if 7 in faults:
+        lines.append('1 0 64')
+    if 3 in faults:
+        lines.append('1 0 0!')
+    if 4 in faults:
+        lines += ['1 0 0'] * (66 - len(lines))
+    made = book(' '.join(names), *lines)
+    if 1 in faults:
+        made += '1 0 0\n' * ((4097 - len(made)) // 6 + 1)
+    if 2 in faults:
+        made += 'x'
+    return made
+
+
+def lowest_fault(faults):
+    """A book of more than 4,096 bytes in short lines has too many lines too, and a line with a foreign byte is no clause line."""
+    return min(faults)
+
+
+def refusals():
+    for k, (number, made) in enumerate(SINGLE):
+        yield f'single {k + 1}', made, number
+    k = 0
+    for size in (2, 3, 8):
+        for faults in itertools.combinations(range(1, 9), size):
+            k += 1
+            yield f'several {k}', faulty(faults), lowest_fault(faults)
+
+
+# ---- tables forged by hand: 0 the names, 1 a byte of a name, 2 the clauses, 3 to 5 a head, a body, a not-part
+
+LAST = 2 ** 32 - 1
+SOLD = book('fell due', '1 0', '2 0', '16 1')
+FULL = book(TWELVE, *[ROW] * 64)
+
+TABLES = [
+    ('no name', SOLD, 0, 0, 0, 9),
+    ('a name too few', SOLD, 0, 0, 1, 9),
+    ('as many names', SOLD, 0, 0, 2, 0),
+    ('a name too many', SOLD, 0, 0, 3, 9),
+    ('thirteen names', FULL, 0, 0, 13, 9),
+    ('2^64 - 1 names', SOLD, 0, 0, LAST, 9),
+    ('an empty name', SOLD, 1, 0, 0, 9),
+    ('a capital', SOLD, 1, 0, ord('F'), 9),
+    ('a digit first', SOLD, 1, 0, ord('9'), 9),
+    ('a digit second', SOLD, 1, 1, ord('9'), 0),
+    ('a space in a name', SOLD, 1, 1, ord(' '), 9),
+    ('a gap in a name', SOLD, 1, 1, 0, 9),
+    ('a name of eight', SOLD, 1, 4, ord('x'), 0),
+    ('a gap before the last byte', SOLD, 1, 7, ord('x'), 9),
+    ('a byte behind the names', SOLD, 1, 16, ord('x'), 9),
+    ('the last byte', SOLD, 1, 95, ord('x'), 9),
+    ('equal names', book('ab ac', '1 0'), 1, 9, ord('b'), 9),
+    ('names that still differ', book('ab ac', '1 0'), 1, 9, ord('d'), 0),
+    ('a clause too few', SOLD, 2, 0, 2, 9),
+    ('as many clauses', SOLD, 2, 0, 3, 0),
+    ('a clause too many', SOLD, 2, 0, 4, 9),
+    ('65 clauses', FULL, 2, 0, 65, 9),
+    ('63 of 64 clauses', FULL, 2, 0, 63, 9),
+    ('2^64 - 1 clauses', SOLD, 2, 0, LAST, 9),
+    ('a head outside', SOLD, 3, 0, 16, 9),
+    ('the highest head', SOLD, 3, 0, 15, 0),
+    ('a body outside', SOLD, 4, 1, 16, 9),
+    ('the highest body', SOLD, 4, 1, 15, 0),
+    ('a not-part outside', SOLD, 5, 2, LAST, 9),
+    ('the highest not-part', SOLD, 5, 2, 15, 0),
+    ('a head outside twelve names', FULL, 3, 63, 2 ** 24, 9),
+    ('an empty clause', SOLD, 3, 1, 0, 9),
+    ('a head behind the clauses', SOLD, 3, 3, 1, 9),
+    ('a body behind the clauses', SOLD, 4, 63, 1, 9),
+    ('a not-part behind the clauses', SOLD, 5, 63, 1, 9),
+]
+
+
+# ---- W at its edge, and rooms at theirs
+
+def vocabulary():
+    """Clauses whose body cannot hold at stage 0 keep the stages small, so that W alone decides."""
+    for n in (1, 2, 5, 11, 12):
+        room = 64 - 4 * n
+        for count in (room - 1, room, room + 1):
+            if count > 64:
+                continue
+            lines = [clause(n, [0], [0], [1]) for _ in range(count)]
+            yield f'single heads, {n} names, W {4 * n + count}', n, lines, 0 if count <= room else 11
+        wide = [clause(n, [0, 1], [0], [1]) for _ in range(room // 2)]
+        yield f'double heads, {n} names, W 64', n, wide, 0
+        if len(wide) < 64:
+            yield f'double heads, {n} names, W 66', n, wide + [clause(n, [0, 1], [0], [1])], 11
+    yield 'empty heads count nothing', 12, [clause(12, [], [0], [1]) for _ in range(64)], 0
+    yield 'clauses without a not-part count nothing', 12, [clause(12, [0, 1, 2], [0], []) for _ in range(64)], 0
+    yield 'seventeen equal lines', 12, [clause(12, [0], [], [0]) for _ in range(17)], 11
+
+
+def rooms():
+    yield '2.11', 'a b c d'.split(), rows('1 1 4 0 / 0 0 4 2 / 0 0 1 0 / 4 4 0 0'), 3
+    yield 'no clause', ['a'], [], 1
+    for label, count, make in (('dense', 120, dense), ('disjunction', 60, disjunctions), ('default', 60, defaults)):
+        rng = random.Random(f'{SEED} rooms {label}')
+        k = 0
+        while k < count:
+            n, clauses = make(rng)
+            if any(not any(c) for c in clauses) or transformed(n, clauses)[1] > 64:
+                continue
+            largest = largest_stage(n, clauses, 3000)
+            if largest is None:
+                continue
+            k += 1
+            yield f'{label} {k}', names_for(rng, n), clauses, largest
+
+
+# ---- the files
+
+def record(label, text, numbers):
+    assert '=' not in text and '\n' not in label
+    return label + '\n' + text + '=' + ' '.join(str(x) for x in numbers) + '\n'
+
+
+def save(name, records):
+    with open(os.path.join(DATA, name), 'w', newline='') as out:
+        out.write(''.join(records))
+    print(name, len(records))
+
+
+def main():
+    version = subprocess.run(['clingo', '--version'], capture_output=True, text=True).stdout.split('\n')[0]
+    os.makedirs(DATA, exist_ok=True)
+    save('samples', [record(a, text_of(n, c), m) for a, n, c, m in written_out(SAMPLES)])
+    save('paper', [record(a, text_of(n, c), m) for a, n, c, m in written_out(PAPER)])
+    save('refusals', [record(a, t, [r]) for a, t, r in refusals()])
+    save('vocabulary', [record(a, text_of(list('abcdefghijkl')[:n], c), [r]) for a, n, c, r in vocabulary()])
+    save('rooms', [record(a, text_of(n, c), [r]) for a, n, c, r in rooms()])
+    save('solver', [record(a, text_of(n, c), m) for kind in KINDS for a, n, c, m in random_books(*kind)])
+    save('tables', [record(a, t, numbers) for a, t, *numbers in TABLES])
+    with open(os.path.join(DATA, 'VERSION'), 'w') as out:
+        out.write(f'seed {SEED}\n{version}\n')
+
+
+if __name__ == '__main__':
+    main()
