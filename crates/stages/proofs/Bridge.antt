@@ -17,10 +17,10 @@ use Rattle.sets.proofs.Lists.{in-flatMap, flatMap-in, map-in, below-in, length-
 use Rattle.sets.proofs.Rising.{rising-ext}
 use Rattle.sets.specs.Lists.{_∈_, below, Rising}
 use Rattle.sets.specs.Words.{bit, inside, put, mask}
-use Rattle.stages.proofs.Literals.{lit-out}
-use Rattle.stages.proofs.RisingSets.{in-addAll, addAll-in, addAll-rising}
-use Rattle.stages.specs.Literals.{literals}
-use Rattle.stages.specs.Operator.{WordRule, choices, next, stage}
+use Rattle.operator.proofs.Literals.{lit-out}
+use Rattle.operator.proofs.RisingSets.{in-addAll, addAll-in, addAll-rising}
+use Rattle.operator.specs.Literals.{literals}
+use Rattle.operator.specs.Operator.{WordRule, choices, next, stage}
 
 -- a clause as two words says what a rule of the theory says
 pub record Like (c : WordRule) (r : Rule ℕ) : Type 0 where

@@ -16,7 +16,7 @@ use Rattle.sets.proofs.Least.{least-is, least-none, least-late}
 use Rattle.lists.specs.Bytes.{same}
 use Rattle.lists.proofs.Loops.{same-self, same-true}
 use Rattle.stages.proofs.Bridge.{stage-rests}
-use Rattle.stages.specs.Operator.{WordRule, next, stage}
+use Rattle.operator.specs.Operator.{WordRule, next, stage}
 use Rattle.stages.specs.Run.{resting, ending, finalStage, crowded, Reached}
 
 pub same-eq : (a b : List ℕ) → T (same a b) → a ≡ b
