@@ -1,9 +1,4 @@
--- Laws of rising sets, of the operator, and of the routines that form a stage.
-pub mod RisingSets
-pub mod Literals
-pub mod Slices
-pub mod Growing
+-- Laws of the operator, and of the routines that form a stage.
 pub mod Operator
-pub mod Inserting
 pub mod Choosing
 pub mod Stepping

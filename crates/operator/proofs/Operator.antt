@@ -1,21 +1,19 @@
 -- The operator on words: what a set gives, and the stages. Assumes nothing.
-use Prim.Native.Nat.{ℕ, suc, _+_, _-_, _^_, _<_}
+use Prim.Native.Nat.{ℕ, suc, _+_, _-_, _<_}
 use lib.Dec.{T, eqb, eqb→eq}
 use lib.ListN.{getD}
-use mathlib.Core.Bool.{Bool, true, false, _&&_, _||_}
+use mathlib.Core.Bool.{Bool, true, false, cond, _&&_, _||_}
 use mathlib.Core.List.{List, [], _∷_, _++_, flatMap}
-use mathlib.Core.Logic.{⊎-elim}
 use mathlib.Core.Path.{_≡_, refl, sym, ap, ap₂, _∙_, subst}
 use native.Mathlib.Omega.{arith}
-use Rattle.sets.proofs.Lists.{in-flatMap, flatMap-in}
-use Rattle.sets.proofs.Tests.{T?, T-and-l, T-and-r, T-true}
-use Rattle.sets.specs.Lists.{_∈_, Rising, some}
-use Rattle.sets.specs.Words.{bit, inside, put}
-use Rattle.operator.proofs.Literals.{lit-in, lit-out, literals-none, put-there, fewer-head, fewer-outside, fewer-inside}
-use Rattle.operator.proofs.RisingSets.{addAll-same}
-use Rattle.operator.specs.Literals.{literals, fewer}
-use Rattle.operator.specs.Operator.{WordRule, rulesFrom, choices, next, bars, barred}
-use Rattle.operator.specs.RisingSets.{addAll}
+use Rattle.sets.proofs.Tests.{T-and-l, T-and-r, T-true}
+use Rattle.sets.specs.Lists.{some}
+use Rattle.sets.specs.Words.{inside, put}
+use Rattle.rising.proofs.Literals.{literals-none}
+use Rattle.rising.specs.Literals.{literals}
+use Rattle.heads.specs.Heads.{picks}
+use Rattle.operator.specs.Operator.{WordRule, rulesFrom, choices, fired, next, bars, barred}
+use Rattle.rising.specs.RisingSets.{addAll}
 
 -- ---- one clause more
 
@@ -36,26 +34,29 @@ module _ (i j : ℕ) (c : WordRule) (Q : List WordRule) where
   unfolding choices
   choices-fired e = rw e
 
--- choices that lie in j already are followed once
-pub merged : (i j h : ℕ) (Q : List WordRule) (l : List ℕ) → j < 2 ^ 64 → Rising l
-    → addAll (flatMap (λ t. choices i Q (put t j)) (literals h)) l ≡ addAll (flatMap (λ t. choices i Q (put t j)) (literals (fewer h j))) l
-merged i j h Q l b r = addAll-same (flatMap f (literals h)) (flatMap f (literals (fewer h j))) l r to of
+-- the choices are made in the heads of the clauses that fire
+pub choices-picks : (i : ℕ) (Q : List WordRule) (j : ℕ) → choices i Q j ≡ picks (fired i Q) j
+unfolding choices picks fired flatMap
+choices-picks i [] j = refl
+choices-picks i (c ∷ Q) j = go (inside (c .body) i) (λ v. choices-picks i Q v)
   where
-    f : ℕ → List ℕ
-    f t = choices i Q (put t j)
+    same : ((v : ℕ) → choices i Q v ≡ picks (fired i Q) v) → (l : List ℕ) → flatMap (λ t. choices i Q (put t j)) l ≡ flatMap (λ t. picks (fired i Q) (put t j)) l
+    same ih [] = refl
+    same ih (t ∷ l) = ap₂ (λ (x y : List ℕ). x ++ y) (ih (put t j)) (same ih l)
 
-    to : (z : ℕ) → z ∈ flatMap f (literals h) → z ∈ flatMap f (literals (fewer h j))
-    to z m = let s = flatMap-in f z (literals h) m in let k = lit-out h (s .0) (s .1) in ⊎-elim
-        (λ (u : T (bit j (s .0))).
-        let w = fewer-inside h j b (s .0) (k .1) u in
-        in-flatMap f (w .0) z (literals (fewer h j)) (lit-in (fewer h j) (w .0) (w .1) (w .2))
-        (subst (λ v. z ∈ choices i Q v) (put-there j (s .0) u ∙ sym (put-there j (w .0) (w .3))) (s .2)))
-        (λ n. in-flatMap f (s .0) z (literals (fewer h j)) (lit-in (fewer h j) (s .0) (k .0) (fewer-outside h j (s .0) (k .1) n)) (s .2))
-        (T? (bit j (s .0)))
+    go : (b : Bool) → ((v : ℕ) → choices i Q v ≡ picks (fired i Q) v)
+        → cond b (flatMap (λ t. choices i Q (put t j)) (literals (c .head))) (choices i Q j) ≡ picks (cond b (c .head ∷ fired i Q) (fired i Q)) j
+    go true ih = same ih (literals (c .head))
+    go false ih = ih j
 
-    of : (z : ℕ) → z ∈ flatMap f (literals (fewer h j)) → z ∈ flatMap f (literals h)
-    of z m = let s = flatMap-in f z (literals (fewer h j)) m in let k = lit-out (fewer h j) (s .0) (s .1) in
-        in-flatMap f (s .0) z (literals h) (lit-in h (s .0) (k .0) (fewer-head h j (s .0) (k .1))) (s .2)
+module _ (i : ℕ) (c : WordRule) (Q : List WordRule) where
+  pub fired-quiet : inside (c .body) i ≡ false → fired i (c ∷ Q) ≡ fired i Q
+  unfolding fired
+  fired-quiet e = rw e
+
+  pub fired-one : inside (c .body) i ≡ true → fired i (c ∷ Q) ≡ c .head ∷ fired i Q
+  unfolding fired
+  fired-one e = rw e
 
 -- ---- constraints
 

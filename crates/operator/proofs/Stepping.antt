@@ -6,19 +6,21 @@ use lib.Dec.{eqb}
 use lib.ListN.{length, getD, take, drop, drop-of-length-le}
 use lib.Seq.{drop-cons, length-take-le, getD-take}
 use mathlib.Core.Bool.{Bool, true, false, _&&_, _||_}
-use mathlib.Core.List.{List, _∷_, flatMap}
+use mathlib.Core.List.{List, _∷_, _++_, flatMap}
 use mathlib.Core.Path.{_≡_, refl, sym, ap, ap₂, _∙_, subst}
 use native.Mathlib.Numerals.{add-one}
 use native.Mathlib.Omega.{arith}
 use Rattle.sets.specs.Lists.{Rising, some}
 use Rattle.sets.specs.Words.{inside}
-use Rattle.operator.proofs.Growing.{Growing, grown-as, grow-start, grow-call, grow-done, grow-over}
-use Rattle.operator.proofs.Operator.{rules-none, rules-one, barred-none, next-is}
-use Rattle.operator.proofs.RisingSets.{nothing-rises}
-use Rattle.operator.proofs.Slices.{size-fits}
-use Rattle.operator.specs.Growing.{Grown}
-use Rattle.operator.specs.Operator.{WordRule, rulesFrom, choices, bars, barred, next}
-use Rattle.operator.specs.RisingSets.{addAll}
+use Rattle.rising.proofs.Growing.{Growing, grown-as, grow-start, grow-call, grow-done, grow-over}
+use Rattle.heads.specs.Heads.{headsFrom, picks}
+use Rattle.heads.proofs.Loops.{heads-none}
+use Rattle.operator.proofs.Operator.{rules-none, rules-one, choices-picks, barred-none, next-is}
+use Rattle.rising.proofs.RisingSets.{nothing-rises}
+use Rattle.rising.proofs.Slices.{size-fits}
+use Rattle.rising.specs.Growing.{Grown}
+use Rattle.operator.specs.Operator.{WordRule, rulesFrom, choices, fired, bars, barred, next, Chosen}
+use Rattle.rising.specs.RisingSets.{addAll}
 
 pub bars-is : (i head body : ℕ) → (eqb head 0 && eqb (bitAnd body i) body) ≡ bars i (record { head = head; body = body })
 unfolding bars
@@ -60,9 +62,15 @@ module _ (hs bs : List ℕ) (count i : ℕ) (xs : List ℕ) (held : ℕ) where
       (ap (λ (l : List ℕ). addAll l (take held xs)) (barred-none i (rulesFrom hs bs 0 count) (sym e ∙ t) i))
       (let l = length-take-le held xs h in record { count = sym (size-fits (length xs) (take held xs) (omega arith) ∙ l); words = λ k. refl })
 
-  pub gives-all : (out : List ℕ) (r : ℕ) → Grown (length xs) (addAll (choices i (rulesFrom hs bs 0 (count - 0)) i) (take held xs)) out r
+  -- no head is set aside yet
+  pub gives-all : (ws vs out : List ℕ) (r : ℕ) → Chosen (length xs) (addAll (picks (headsFrom ws 0 0 ++ fired i (rulesFrom hs bs 0 (count - 0))) i) (take held xs)) out r 0 ws vs
       → Grown (length xs) (addAll (choices i (rulesFrom hs bs 0 count) i) (take held xs)) out r
-  gives-all out r g = let e : count - 0 ≡ count = omega arith in subst (λ (n : ℕ). Grown (length xs) (addAll (choices i (rulesFrom hs bs 0 n) i) (take held xs)) out r) e g
+  gives-all ws vs out r g =
+      let e : count - 0 ≡ count = omega arith in
+      grown-as (length xs) (addAll (picks (headsFrom ws 0 0 ++ fired i (rulesFrom hs bs 0 (count - 0))) i) (take held xs)) (addAll (choices i (rulesFrom hs bs 0 count) i) (take held xs)) out r
+      (ap (λ (l : List ℕ). addAll l (take held xs)) (choices-picks i (rulesFrom hs bs 0 count) i
+      ∙ sym (ap (λ (A : List ℕ). picks (A ++ fired i (rulesFrom hs bs 0 (count - 0))) i) (heads-none ws 0 0 (omega arith)) ∙ ap (λ (m : ℕ). picks (fired i (rulesFrom hs bs 0 m)) i) e)))
+      (g .grown)
 
 -- ---- the members from p on have still to give
 

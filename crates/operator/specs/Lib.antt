@@ -1,6 +1,2 @@
--- The operator on words, and rising sets in slices; the laws stand in proofs/.
-pub mod Literals
-pub mod RisingSets
+-- The operator on words; the laws stand in proofs/.
 pub mod Operator
-pub mod Slices
-pub mod Growing

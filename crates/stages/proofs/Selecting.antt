@@ -12,8 +12,8 @@ use native.Mathlib.Omega.{arith}
 use borrow.Author.Needs.{needs}
 use Rattle.sets.specs.Lists.{sift, some}
 use Rattle.sets.proofs.Tests.{clash}
-use Rattle.operator.specs.Slices.{Sifted}
-use Rattle.operator.specs.Operator.{WordRule, rulesFrom, stage}
+use Rattle.rising.specs.Slices.{Sifted}
+use Rattle.operator.specs.Operator.{WordRule, stage}
 use Rattle.stages.specs.Run.{finalStage, crowded, Settled, Settling}
 use Rattle.stages.specs.Minimal.{violates, satisfies, properIn, leastIn, minimals, minimalModels, Minimals}
 use Rattle.stages.proofs.Run.{crowded-start, reached-start}

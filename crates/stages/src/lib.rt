@@ -1,11 +1,10 @@
 // The run of the stages of a positive program on 64-bit words, in two lent slices, and the minimal models in the stage that ends it.
 ghost use mathlib.Core.Path.{_≡_};
-ghost use mathlib.Core.List.{List, [], _∷_};
 ghost use Prim.Native.Nat.{_+_, _-_, _≤_, _<_};
 ghost use lib.ListN.{length, take};
 ghost use Rattle.sets.specs.Lists.{sift, some};
 ghost use Rattle.lists.specs.Bytes.{same};
-ghost use Rattle.operator.specs.Slices.{Sifted};
+ghost use Rattle.rising.specs.Slices.{Sifted};
 ghost use Rattle.operator.specs.Operator.{rulesFrom};
 ghost use Rattle.stages.specs.Run.{Settling, Settled};
 ghost use Rattle.stages.specs.Minimal.{violates, satisfies, properIn, leastIn, Minimals};

@@ -9,8 +9,8 @@ use Rattle.lists.specs.Bytes.{same}
 use Rattle.program.specs.Clauses.{Clause}
 use Rattle.program.specs.Values.{wordOf, clauseOfValues}
 use Rattle.semantics.specs.Books.{Book, books, clausesOf, modelsOf}
-use Rattle.operator.specs.RisingSets.{insertInto, addAll}
-use Rattle.operator.specs.Literals.{bitsFrom}
+use Rattle.rising.specs.RisingSets.{insertInto, addAll}
+use Rattle.rising.specs.Literals.{bitsFrom}
 use Rattle.operator.specs.Operator.{WordRule, choices, next, stage}
 use Rattle.stages.specs.Run.{resting, ending, finalStage}
 use Rattle.stages.specs.Minimal.{violates, satisfies, properIn, leastIn, minimals, minimalModels}

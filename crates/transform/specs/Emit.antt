@@ -7,7 +7,7 @@ use Rattle.program.specs.Clauses.{Clause}
 use Rattle.program.proofs.Validity.{Below}
 use Rattle.sets.specs.Lists.{Each}
 use Rattle.sets.specs.Words.{mask}
-use Rattle.operator.specs.Literals.{literals}
+use Rattle.rising.specs.Literals.{literals}
 use Rattle.operator.specs.Operator.{WordRule, rulesFrom}
 use Rattle.transform.specs.Transform.{Stand, numbered, clauseB, clauseC, clauseD}
 

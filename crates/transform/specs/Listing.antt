@@ -4,7 +4,7 @@ use mathlib.Core.List.{List, map}
 use Prim.Native.Nat.{ℕ, _/_, _%_, _^_}
 use Rattle.sets.specs.Lists.{sift}
 use Rattle.sets.specs.Words.{inside}
-use Rattle.operator.specs.RisingSets.{gather}
+use Rattle.rising.specs.RisingSets.{gather}
 use Rattle.operator.specs.Operator.{WordRule}
 use Rattle.stages.specs.Minimal.{minimalModels}
 

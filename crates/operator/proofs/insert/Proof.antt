@@ -1,8 +1,0 @@
--- `operator::insert` meets its contract. Assumes nothing.
-use borrow.Author.Needs.{needs}
-use Rattle.operator.proofs.Inserting.{inserting}
-use Rattle.operator.proofs.insert.Statement.{statement}
-use Rattle.operator.proofs.insert.Tie as tie
-
-pub insert-spec : {M : Type 1} → statement M
-insert-spec = tie.close (tie.spec (λ c. search needs) (λ c. search needs) (λ c. search needs) (λ c. search inserting) (λ c. search needs) (λ c. search needs) (λ c. search inserting) (λ c. search needs) (λ c. search needs) (λ c. search inserting) (λ c. search needs) (λ c. search needs) (λ c. search inserting))

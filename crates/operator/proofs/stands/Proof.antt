@@ -1,8 +1,0 @@
--- `operator::stands` meets its contract. Assumes nothing.
-use borrow.Author.Needs.{needs}
-use Rattle.operator.proofs.Inserting.{inserting}
-use Rattle.operator.proofs.stands.Statement.{statement}
-use Rattle.operator.proofs.stands.Tie as tie
-
-pub stands-spec : {M : Type 1} → statement M
-stands-spec = tie.close (tie.spec (λ c. search needs) (λ c. search needs) (λ c. search inserting) (λ c. search inserting))

@@ -1,8 +1,0 @@
--- `operator::with` meets its contract. Assumes nothing.
-use borrow.Author.Needs.{needs}
-use Rattle.operator.proofs.Choosing.{choosing}
-use Rattle.operator.proofs.with.Statement.{statement}
-use Rattle.operator.proofs.with.Tie as tie
-
-pub with-spec : {M : Type 1} → statement M
-with-spec = tie.close (tie.spec (λ c. search needs) (λ c. search choosing))
