@@ -13,14 +13,14 @@ use lib.ListN.{length, getD, set}
 use lib.Seq.{getD-set-same, getD-set-other}
 use lib.Pow.{shl-exact}
 use borrow.Author.Tests.{eq-eqb, ne-eqb}
-use Rattle.sets.specs.Lists.{some, sift, upFrom, onward}
+use Rattle.sets.specs.Lists.{_∈_, some, sift, upFrom, onward}
 use Rattle.sets.specs.Words.{bit, apart, meets}
 use Rattle.sets.proofs.Lists.{onward-step, onward-done, upFrom-ext, upFrom-add}
 use Rattle.sets.proofs.Tests.{T-true}
 use Rattle.sets.proofs.Digits.{bits-ext, meets-bits}
 use Rattle.rising.proofs.Literals.{low-lt, literals-low, lit-out}
 use Rattle.heads.specs.Heads.{Literal, headsFrom, union, without}
-use Rattle.heads.proofs.Branches.{in-or, or-left, or-right, in-pow}
+use Rattle.sets.proofs.Branches.{in-or, or-left, or-right, in-pow}
 
 -- ---- words
 pub one-shl : (h : ℕ) → h < 64 → 1 * 2 ^ h % 2 ^ 64 ≡ 2 ^ h
@@ -47,7 +47,7 @@ literal-tested s t l n =
 
 pub literal-lowest : (s t : ℕ) → 0 < s → s < 2 ^ 64 → t ≡ trailingZeros 64 s → Literal s t
 literal-lowest s t h b e =
-    let m = lit-out s (trailingZeros 64 s) (subst (λ (l : List ℕ). Rattle.sets.specs.Lists._∈_ (trailingZeros 64 s) l) (sym (literals-low s (λ z. omega arith) b)) (inl refl)) in
+    let m = lit-out s (trailingZeros 64 s) (subst (λ (l : List ℕ). trailingZeros 64 s ∈ l) (sym (literals-low s (λ z. omega arith) b)) (inl refl)) in
     record { small = omega (arith, m .0); member = ap (bit s) e ∙ T-true (bit s (trailingZeros 64 s)) (m .1) }
 
 -- ---- one head more

@@ -10,6 +10,7 @@ use lib.Bits.{bitAnd, bitOr, or-zero-r, or-step}
 use lib.Count.{ones, ones-step}
 use lib.Dec.{T}
 use lib.ListN.{length}
+use borrow.Author.Tests.{ne-eqb}
 use Rattle.sets.specs.Lists.{_∈_, Rising, sift}
 use Rattle.sets.specs.Words.{_⊑_, bit, put, meets}
 use Rattle.sets.proofs.Lists.{in-flatMap, flatMap-in}
@@ -20,7 +21,7 @@ use Rattle.rising.specs.RisingSets.{addAll}
 use Rattle.rising.proofs.Literals.{lit-out, put-put}
 use Rattle.rising.proofs.RisingSets.{addAll-same}
 use Rattle.heads.specs.Heads.{picks, union}
-use Rattle.heads.proofs.Branches.{in-or, or-left, or-right, both-in, in-both, in-pow, pow-in}
+use Rattle.sets.proofs.Branches.{in-or, or-left, or-right, both-in, in-both, in-pow, pow-in}
 
 -- ---- it holds j
 pub picks-holds : (H : List ℕ) (j v : ℕ) → v ∈ picks H j → bit j ⊑ bit v
@@ -95,7 +96,7 @@ module _ (x : ℕ) where
       (λ i u. let p = in-both x j i u in both-in x (put t j) i (p .0) (or-left j (2 ^ t) i (p .1)))
 
   meets-by : (h t : ℕ) → T (bit x t) → T (bit h t) → meets x h ≡ true
-  meets-by h t a b = ap not (borrow.Author.Tests.ne-eqb (bitAnd x h) 0 (λ e. subst T (bit-zero t) (subst (λ (z : ℕ). T (bit z t)) e (both-in x h t a b))))
+  meets-by h t a b = ap not (ne-eqb (bitAnd x h) 0 (λ e. subst T (bit-zero t) (subst (λ (z : ℕ). T (bit z t)) e (both-in x h t a b))))
 
   sift-more : (h : ℕ) (H : List ℕ) → length (sift (meets x) H) ≤ length (sift (meets x) (h ∷ H))
   unfolding sift

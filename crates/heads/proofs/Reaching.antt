@@ -17,7 +17,8 @@ use Rattle.sets.proofs.Digits.{bit-zero}
 use Rattle.rising.specs.Literals.{literals}
 use Rattle.rising.proofs.Literals.{lit-in, lit-out, literals-none}
 use Rattle.heads.specs.Heads.{Literal, headsFrom, picks, without}
-use Rattle.heads.proofs.Branches.{in-both, both-in, in-pow, pow-in, in-without, without-in}
+use Rattle.sets.proofs.Branches.{in-both, both-in, in-pow, pow-in}
+use Rattle.heads.proofs.Tests.{in-without, without-in}
 use Rattle.heads.proofs.Loops.{heads-one, heads-none}
 use Rattle.heads.proofs.Picks.{picks-chosen}
 

@@ -1,7 +1,7 @@
 -- Which of the sets lie between two words: none where a test says so, one where nothing is free, else those of two branches. Assumes nothing.
 use mathlib.Core.Path.{_≡_, refl, sym, ap, _∙_, subst}
 use mathlib.Core.Bool.{Bool, true, false}
-use mathlib.Core.List.{List, [], _∷_, _++_}
+use mathlib.Core.List.{List, [], _∷_, _++_, append-nil}
 use mathlib.Core.Logic.{_⊎_, inl, ⊎-elim}
 use Prim.Native.Nat.{ℕ, _+_, _-_, _≤_, _<_}
 use native.Mathlib.Omega.{arith}
@@ -12,7 +12,7 @@ use lib.ListN.{length, take}
 use lib.Seq.{length-take-le}
 use borrow.Author.Tests.{eqb-true, eq-eqb, ltb-true}
 use Rattle.sets.specs.Lists.{_∈_, Rising, some, sift}
-use Rattle.sets.specs.Words.{bit, apart, meets}
+use Rattle.sets.specs.Words.{bit, apart, meets, Highest}
 use Rattle.sets.proofs.Lists.{some-in, none-each, in-sift, out-sift, sift-in, sift-out, sift-none, in-++, in-++-l, in-++-r}
 use Rattle.sets.proofs.Tests.{T?, not-T-false}
 use Rattle.sets.proofs.Digits.{bit-zero, bits-ext}
@@ -22,8 +22,9 @@ use Rattle.rising.specs.Slices.{Put}
 use Rattle.rising.proofs.Growing.{Growing, put-grown, grown-as, grow-start, grow-call, grow-done, grow-over}
 use Rattle.rising.proofs.RisingSets.{addAll-same}
 use Rattle.rising.proofs.Slices.{size-fits}
-use Rattle.heads.specs.Heads.{Highest, picks, union, without, between}
-use Rattle.heads.proofs.Branches.{is-between, between-is, between-one, one-between, in-or, or-left, or-right, both-in, in-both, in-without, without-in, from-out, from-in, branches}
+use Rattle.heads.specs.Heads.{picks, union, without, between}
+use Rattle.sets.proofs.Branches.{in-or, or-left, or-right, both-in, in-both, from-out, from-in, branches}
+use Rattle.heads.proofs.Tests.{is-between, between-is, between-one, one-between, in-without, without-in}
 use Rattle.heads.proofs.Picks.{picks-holds, picks-within, picks-met, picks-count}
 
 nothing : (p : ℕ → Bool) (L : List ℕ) → ((x : ℕ) → x ∈ L → T (p x) → ⊥) → sift p L ≡ []
@@ -129,7 +130,7 @@ module _ (L xs : List ℕ) (held : ℕ) where
               → Grown (length xs) (addAll (sift (between free w) L) (take held xs)) out r
           scan-both out r o f l = grown-as (length xs) (addAll (out-part ++ in-part) (take held xs)) (addAll (sift (between free w) L) (take held xs)) out r halves
               (grow-done (length xs) (addAll (out-part ++ in-part) (take held xs)) [] out r
-              (grow-call (length xs) (addAll (out-part ++ in-part) (take held xs)) in-part in-part [] ys out m r half (sym (mathlib.Core.List.append-nil in-part)) (omega arith) f l) refl)
+              (grow-call (length xs) (addAll (out-part ++ in-part) (take held xs)) in-part in-part [] ys out m r half (sym (append-nil in-part)) (omega arith) f l) refl)
 
 -- ---- all of them: they hold j and have no other literal but of the heads
 pub scan-all : (H xs : List ℕ) (held j u free : ℕ) (out : List ℕ) (r : ℕ) → Rising (take held xs) → u ≡ union H → free ≡ without u j

@@ -2,7 +2,7 @@
 use mathlib.Core.Path.{_≡_}
 use mathlib.Core.Bool.{Bool, true, _&&_}
 use mathlib.Core.List.{List, [], _∷_, flatMap}
-use Prim.Native.Nat.{ℕ, _+_, _-_, _^_, _≤_, _<_}
+use Prim.Native.Nat.{ℕ, _-_, _<_}
 use lib.Bits.{bitAnd, bitOr}
 use lib.ListN.{getD}
 use Rattle.sets.specs.Lists.{onward}
@@ -30,13 +30,6 @@ without a b = a - bitAnd a b
 -- x holds w and, beyond it, only literals of `free`
 unfoldable pub between : ℕ → ℕ → ℕ → Bool
 between free w x = inside w x && inside x (bitOr w free)
-
--- t is the highest bit of x
-pub record Highest (x t : ℕ) : Type 0 where
-  pub place : ℕ
-  pub power : t ≡ 2 ^ place
-  pub within : t ≤ x
-  pub most : x < t + t
 
 -- t is a literal of s
 pub record Literal (s t : ℕ) : Type 0 where

@@ -7,10 +7,10 @@ ghost use lib.Count.{ones};
 ghost use lib.Dec.{eqb, ltb};
 ghost use lib.ListN.{length, take};
 ghost use Rattle.sets.specs.Lists.{Rising, some, sift};
-ghost use Rattle.sets.specs.Words.{apart, meets};
+ghost use Rattle.sets.specs.Words.{apart, meets, Highest};
 ghost use Rattle.rising.specs.Growing.{Grown};
 ghost use Rattle.rising.specs.RisingSets.{addAll};
-ghost use Rattle.heads.specs.Heads.{Highest, headsFrom, picks, union, without, between, Literal};
+ghost use Rattle.heads.specs.Heads.{headsFrom, picks, union, without, between, Literal};
 
 // The highest literal of a word that has one, as a word.
 fn highest(s: u64) -> u64

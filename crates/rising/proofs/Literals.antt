@@ -2,7 +2,7 @@
 use Prim.Native.Nat.{ℕ, zero, suc, _+_, _-_, _*_, _/_, _%_, _^_, _≤_, _<_}
 use lib.Bits.{bitAnd, bitOr, and-step, and-self, and-le-r}
 use lib.Count.{trailingZeros, under}
-use lib.Dec.{T, eqb, eqb→eq, lit<}
+use lib.Dec.{T, eqb, lit<}
 use lib.Pow.{shl-exact}
 use mathlib.Core.Bool.{Bool, true, false, not, _&&_, _||_}
 use mathlib.Core.List.{List, [], _∷_}
@@ -10,8 +10,7 @@ use mathlib.Core.Logic.{_⊎_, inl, inr, ⊎-elim}
 use mathlib.Core.Path.{_≡_, refl, sym, ap, ap₂, _∙_, subst}
 use native.Mathlib.Nat.{pow-suc, one-mul}
 use native.Mathlib.Omega.{arith}
-use Rattle.sets.proofs.Digits.{bit-first, bit-suc, bit-or, bit-pow, bit-ext}
-use Rattle.sets.proofs.Tests.{T-or, T-or-l, T-ext}
+use Rattle.sets.proofs.Digits.{bit-first, bit-suc, bit-or, bit-ext}
 use Rattle.sets.specs.Lists.{_∈_, Each, Rising}
 use Rattle.sets.specs.Words.{bit, put}
 use Rattle.rising.specs.Literals.{here, bitsFrom, literals, low}
@@ -160,11 +159,6 @@ bit-minus h s (suc i) e =
     ∙ ap₂ (λ (x y : Bool). x && not y) (sym (bit-suc h i)) (sym (bit-suc s i))
 
 -- ---- one literal put in
-
-pub put-there : (j x : ℕ) → T (bit j x) → put x j ≡ j
-put-there j x t = bit-ext (put x j) j (λ i. bit-or j (2 ^ x) i ∙ T-ext (bit j i || bit (2 ^ x) i) (bit j i)
-    (λ u. ⊎-elim (λ v. v) (λ v. subst (λ z. T (bit j z)) (sym (eqb→eq i x (subst T (bit-pow x i) v))) t) (T-or (bit j i) (bit (2 ^ x) i) u))
-    (λ u. T-or-l (bit j i) (bit (2 ^ x) i) u))
 
 put-put-bit : (a b c : Bool) → ((a || b) || c) ≡ ((a || c) || b)
 put-put-bit true b c = refl

@@ -3,7 +3,7 @@ use Prim.Native.Nat.{ℕ, _<_}
 use native.Mathlib.Omega.{arith}
 use borrow.Fn.Kinds.{In}
 use borrow.Fn.PlainCycle.{Measures, is, falls, and}
-use Rattle.heads.proofs.Branches.{rest-less}
+use Rattle.sets.proofs.Branches.{rest-less}
 use Rattle.heads.proofs.Scanning.{scan-rises}
 use Rattle.heads.proofs.Rules.{scans}
 use Rattle.heads.proofs.scan.Reads as scan
