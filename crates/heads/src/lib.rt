@@ -28,7 +28,7 @@ fn less(a: u64, b: u64) -> u64
 }
 
 // ---- hints
-// `server` has for each literal the head that is to serve it. Nothing is promised of a hint. What it leads to is tested, so a wrong one costs time and changes no answer.
+// `server` has for each literal the head that is to serve it, 64 where it needs none. Nothing is promised of a hint. What it leads to is tested, so a wrong one costs time and changes no answer.
 fn slot(x: usize) -> usize
     ensures { λ r. ⌜ r < 64 ⌝ }
 {
@@ -310,7 +310,7 @@ pub fn combine(wide: &[u64; 64], n: usize, j: u64, set: &mut [u64], held: usize)
     requires { ⌜ (n ≤ 64) × (held ≤ length (now set)) × Rising (take held (now set)) ⌝ }
     ensures { λ r. ⌜ Grown (length (now (set .entry))) (addAll (picks (headsFrom (now (wide .entry)) n 0) j) (take held (now (set .entry)))) (now (set .exit)) r ⌝ }
 {
-    let mut server = [0usize; 64];
+    let mut server = [64usize; 64];
     let free = less(offered(wide, n), j);
     scan(wide, n, j, free, j, 0, &mut server, set, held)
 }
