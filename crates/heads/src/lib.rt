@@ -29,6 +29,7 @@ fn less(a: u64, b: u64) -> u64
 
 // ---- hints
 // `server` has for each literal the head that is to serve it, 64 where it needs none. Nothing is promised of a hint. What it leads to is tested, so a wrong one costs time and changes no answer.
+// A place among the 64, whatever `x` is.
 fn slot(x: usize) -> usize
     ensures { λ r. ⌜ r < 64 ⌝ }
 {
@@ -116,7 +117,7 @@ fn widen(
     y
 }
 
-// Looks for a head to serve the literal `t`, where those of `s` are served; where it finds none, gives literals that are more than the heads that could serve them, else 0.
+// Looks for a head to serve the literal `t`, where those of `s` are served, and gives 0; where it finds none, gives literals that are more than the heads that could serve them.
 fn seat(wide: &[u64; 64], n: usize, s: u64, t: u64, server: &mut [usize; 64]) -> u64
     requires { ⌜ n ≤ 64 ⌝ }
 {

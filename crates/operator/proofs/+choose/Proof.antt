@@ -1,11 +1,10 @@
--- `operator::choose` meets its contract. Assumes nothing.
+-- `operator::choose` meets its contract: it calls itself at the next clause, and each way to go on is a law. Assumes nothing.
 use native.Mathlib.Omega.{arith}
-use Prim.Native.Nat.{_-_}
+use Prim.Native.Nat.{ℕ, _-_, _<_}
 use borrow.Author.Tests.{not-false}
 use lib.ListN.{getD, length-set}
 use mathlib.Core.Path.{_∙_}
 use Rattle.operator.proofs.Choosing.{choosing, Choice, aside-room, put-aside, choice-start, choice-visit, choice-step}
-use Prim.Native.Nat.{ℕ, _<_}
 use borrow.Fn.Kinds.{In}
 use borrow.Fn.PlainCycle.{Measures, is, falls, and}
 use Rattle.operator.proofs.choose.Reads as choose
