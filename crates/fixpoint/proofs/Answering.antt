@@ -21,12 +21,12 @@ use Rattle.program.specs.Valid.{valid, Sized}
 use Rattle.program.specs.Refusals.{lowest}
 use Rattle.program.proofs.Clauses.{length-rows}
 use Rattle.program.proofs.Validity.{Below, valid-names, valid-clauses, valid-below}
-use Rattle.stages.specs.RisingSets.{gather}
-use Rattle.stages.specs.Slices.{Kept}
-use Rattle.stages.specs.Operator.{WordRule, rulesFrom}
+use Rattle.rising.specs.RisingSets.{gather}
+use Rattle.rising.specs.Slices.{Kept}
+use Rattle.operator.specs.Operator.{WordRule, rulesFrom}
 use Rattle.stages.specs.Run.{crowded}
 use Rattle.stages.specs.Minimal.{minimalModels, Minimals}
-use Rattle.stages.proofs.RisingSets.{in-addAll}
+use Rattle.rising.proofs.RisingSets.{in-addAll}
 use Rattle.transform.specs.Transform.{epistemic, allStandIns, members}
 use Rattle.transform.specs.Emit.{clausesFrom, Emits, Room, Book}
 use Rattle.search.specs.declared.Outcome.{Outcome}

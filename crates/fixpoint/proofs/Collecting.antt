@@ -17,13 +17,13 @@ use Rattle.fixpoint.specs.Overwriting.{overwrite}
 use Rattle.sets.proofs.Lists.{at-in}
 use Rattle.sets.specs.Lists.{Each, sift, Rising}
 use Rattle.sets.specs.Words.{inside}
-use Rattle.stages.proofs.Growing.{Growing, put-grown, grow-start, grow-call, grow-done}
+use Rattle.rising.proofs.Growing.{Growing, put-grown, grow-start, grow-call, grow-done}
 use Rattle.stages.proofs.Minimal.{sift-one, sift-none, sift-short}
-use Rattle.stages.proofs.RisingSets.{nothing-rises}
+use Rattle.rising.proofs.RisingSets.{nothing-rises}
 use Rattle.stages.proofs.Selecting.{one-more, no-more}
-use Rattle.stages.proofs.Slices.{size-fits}
-use Rattle.stages.specs.RisingSets.{insertInto, addAll, gather}
-use Rattle.stages.specs.Slices.{Put, Kept}
+use Rattle.rising.proofs.Slices.{size-fits}
+use Rattle.rising.specs.RisingSets.{insertInto, addAll, gather}
+use Rattle.rising.specs.Slices.{Put, Kept}
 
 pub low-is : (w m : ℕ) → m < 64 → bitAnd w (1 * 2 ^ m % 2 ^ 64 - 1) ≡ literalPart m w
 low-is w m h = ap (λ (x : ℕ). bitAnd w (x - 1)) (shl-exact 1 m 64 (lit< tt) (omega arith) ∙ one-mul (2 ^ m)) ∙ and-mask w m

@@ -15,7 +15,7 @@ use Rattle.program.proofs.Validity.{Below, valid-names, valid-below}
 use Rattle.semantics.specs.Interpretations.{isStable, models}
 use Rattle.stable.proofs.Decides.{StableWord, stable-word, word-stable}
 use Rattle.epistemic.proofs.Masks.{taggedFrom}
-use Rattle.stages.specs.Operator.{WordRule}
+use Rattle.operator.specs.Operator.{WordRule}
 use Rattle.transform.specs.Transform.{epistemic, members}
 use Rattle.transform.proofs.Theory.{transformed, vocabularySize, epistemic-is, members-are}
 use Rattle.transform.specs.Listing.{listing}

@@ -16,8 +16,8 @@ use Rattle.sets.proofs.Lists.{length-below}
 use Rattle.program.specs.Clauses.{Clause}
 use Rattle.program.proofs.Validity.{Below}
 use Rattle.epistemic.proofs.Masks.{unmask}
-use Rattle.stages.specs.Literals.{literals}
-use Rattle.stages.specs.Operator.{WordRule}
+use Rattle.rising.specs.Literals.{literals}
+use Rattle.operator.specs.Operator.{WordRule}
 use Rattle.stages.proofs.Minimal.{sift-short}
 use Rattle.transform.specs.Transform.{Stand, numbered, rule, clauseB, clauseC, clauseD, rewritten, becomes, standIns, epistemic, allStandIns, members}
 use Rattle.transform.proofs.Theory.{literals-unmask}

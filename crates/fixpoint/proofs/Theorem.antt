@@ -20,10 +20,10 @@ use Rattle.sets.specs.Lists.{_∈_, Each, sift, Rising, below}
 use Rattle.transform.proofs.Theory.{transformed, vocabularySize}
 use Rattle.stable.proofs.Decides.{StableWord}
 use Rattle.stages.proofs.Minimal.{rests, wordRule, minimal-out, minimal-in}
-use Rattle.stages.proofs.RisingSets.{in-addAll, addAll-in, addAll-rising, nothing-rises}
-use Rattle.stages.specs.Literals.{literals}
+use Rattle.rising.proofs.RisingSets.{in-addAll, addAll-in, addAll-rising, nothing-rises}
+use Rattle.rising.specs.Literals.{literals}
 use Rattle.stages.specs.Minimal.{satisfies, minimals, minimalModels}
-use Rattle.stages.specs.Operator.{WordRule}
+use Rattle.operator.specs.Operator.{WordRule}
 use Rattle.stages.specs.Run.{ending, finalStage}
 
 -- ---- the theorem

@@ -9,7 +9,7 @@ use Rattle.program.specs.declared.Program.{Program}
 use Rattle.program.specs.Clauses.{Clause, clauses}
 use Rattle.program.specs.Valid.{valid}
 use Rattle.program.specs.Refusals.{lowest}
-use Rattle.stages.specs.Operator.{WordRule}
+use Rattle.operator.specs.Operator.{WordRule}
 use Rattle.stages.specs.Run.{crowded}
 use Rattle.transform.specs.Transform.{epistemic, members}
 use Rattle.search.specs.declared.Outcome.{Outcome}

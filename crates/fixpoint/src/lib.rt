@@ -4,9 +4,9 @@ ghost use mathlib.Core.List.{List, map};
 ghost use Prim.Native.Nat.{_*_, _^_, _≤_, _<_, min};
 ghost use lib.ListN.{length, take};
 ghost use Rattle.sets.specs.Lists.{Each, sift};
-ghost use Rattle.stages.specs.RisingSets.{gather};
-ghost use Rattle.stages.specs.Slices.{Kept};
-ghost use Rattle.stages.specs.Operator.{rulesFrom};
+ghost use Rattle.rising.specs.RisingSets.{gather};
+ghost use Rattle.rising.specs.Slices.{Kept};
+ghost use Rattle.operator.specs.Operator.{rulesFrom};
 ghost use Rattle.transform.specs.Emit.{clausesFrom, Book};
 ghost use Rattle.transform.specs.Listing.{literalPart, canonical};
 ghost use Rattle.fixpoint.specs.Overwriting.{overwrite};
@@ -39,7 +39,7 @@ fn is_canonical(w: u64, m: u32) -> bool
     requires { ⌜ m < 64 ⌝ }
     ensures { λ r. ⌜ r ≡ canonical m w ⌝ }
 {
-    stages::subset(low_part(w >> m, m), low_part(w, m))
+    rising::subset(low_part(w >> m, m), low_part(w, m))
 }
 
 // Forms in `set` the set of the literal parts of the canonical ones among the first `count` words.
@@ -51,7 +51,7 @@ fn collect(list: &[u64], count: usize, m: u32, set: &mut [u64]) -> usize
     let mut p: usize = 0;
     while p < count {
         if is_canonical(list[p], m) {
-            n = stages::insert(set, n, low_part(list[p], m));
+            n = rising::insert(set, n, low_part(list[p], m));
             p += 1;
         } else {
             p += 1;

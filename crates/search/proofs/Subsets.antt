@@ -1,119 +1,45 @@
 -- The smaller subsets of a word, depth first: what is left where a branch is cut, and how two branches make one. Assumes nothing.
 use mathlib.Core.Path.{_≡_, refl, sym, ap, _∙_, subst}
 use mathlib.Core.Bool.{Bool, true, false, not, _&&_, _||_}
-use mathlib.Core.Logic.{_⊎_, inl, inr, ⊎-elim}
+use mathlib.Core.Logic.{_⊎_, ⊎-elim}
 use mathlib.Core.List.{List, [], _∷_}
-use Prim.Native.Nat.{ℕ, _+_, _-_, _*_, _^_, _≤_, _<_}
-use native.Mathlib.Nat.{one-mul, eq-or-lt-of-le}
+use Prim.Native.Nat.{ℕ, _-_, _<_}
+use native.Mathlib.Nat.{eq-or-lt-of-le}
 use native.Mathlib.Omega.{arith}
 use lib.Dec.{T, eqb}
-use lib.Pow.{pow-pos}
-use lib.Bits.{bitAnd, bitOr, and-zero-l, or-zero-l, or-zero-r, or-shifted}
+use lib.Bits.{bitOr, and-zero-l, or-zero-l, or-zero-r}
 use borrow.Author.Tests.{eqb-true, eqb-false, eq-eqb, ne-eqb}
 use Rattle.sets.specs.Lists.{_∈_, every, some, sift, below}
-use Rattle.sets.specs.Words.{_⊑_, bit, Inside, Apart, inside, apart}
+use Rattle.sets.specs.Words.{bit, Inside, Apart, inside, apart, Highest}
 use Rattle.sets.specs.Least.{least}
-use Rattle.sets.proofs.Tests.{dec, clash, both-true, and-is-true, T?, T-true, true-T, T-or, T-or-l, T-or-r}
+use Rattle.sets.proofs.Tests.{dec, clash, both-true, and-is-true}
 use Rattle.sets.proofs.Lists.{some-in, none-each, below-in, in-below}
 use Rattle.sets.proofs.Least.{least-miss, least-none}
-use Rattle.sets.proofs.Digits.{inside-bits, inside-le, bit-or, bit-pow}
+use Rattle.sets.proofs.Branches.{or-left, or-right, Between, out-wider, in-wider, from-out, from-in, branches}
+use Rattle.sets.proofs.Digits.{inside-bits, inside-le}
 use Rattle.program.specs.Clauses.{Clause}
 use Rattle.semantics.specs.Interpretations.{reduct, isModel, violates, smaller, leastSmaller, isStable}
 use Rattle.stable.proofs.Readings.{apart-none}
 use Rattle.stable.proofs.Checking.{model-cons}
 use Rattle.search.specs.Tree.{dead}
-use Rattle.search.specs.Leaf.{rulesOut, Highest, smallerBetween}
+use Rattle.search.specs.Leaf.{rulesOut, smallerBetween}
 use Rattle.search.proofs.Nodes.{isMinimal, stable-leaf}
 
 -- ---- words as sets
-in-or : (a b i : ℕ) → T (bit (bitOr a b) i) → T (bit a i) ⊎ T (bit b i)
-in-or a b i t = T-or (bit a i) (bit b i) (subst T (bit-or a b i) t)
-
-or-left : (a b i : ℕ) → T (bit a i) → T (bit (bitOr a b) i)
-or-left a b i t = subst T (sym (bit-or a b i)) (T-or-l (bit a i) (bit b i) t)
-
-or-right : (a b i : ℕ) → T (bit b i) → T (bit (bitOr a b) i)
-or-right a b i t = subst T (sym (bit-or a b i)) (T-or-r (bit a i) (bit b i) t)
-
 inside-trans : (a b c : ℕ) → Inside a b → Inside b c → Inside a c
 inside-trans a b c p q = inside-bits a c .1 (λ i t. inside-bits b c .0 q i (inside-bits a b .0 p i t))
 
 apart-within : (a b c : ℕ) → Apart a c → Inside b c → Apart a b
 apart-within a b c h s = apart-none a b .1 (λ i t u. apart-none a c .0 h i t (inside-bits b c .0 s i u))
 
--- K holds J, and nothing outside J and R
-pub record Between (J R K : ℕ) : Type 0 where
-  pub holds : bit J ⊑ bit K
-  pub within : bit K ⊑ bit (bitOr J R)
+-- ---- the two branches
+module _ (R t : ℕ) (h : Highest R t) (J : ℕ) where
+  -- the words of the two branches are within the whole
+  pub out-inside : (I : ℕ) → Inside (bitOr J R) I → Inside (bitOr J (R - t)) I
+  out-inside I s = inside-bits (bitOr J (R - t)) I .1 (λ i u. inside-bits (bitOr J R) I .0 s i (out-wider R t h J i u))
 
--- ---- the highest bit and the rest
-module _ (R t : ℕ) (h : Highest R t) where
-  pub rest-less : R - t < R
-  rest-less = omega (arith, h .within, h .power, pow-pos (h .place))
-
-  parts : bitOr t (R - t) ≡ R
-  parts =
-      let e : 1 * 2 ^ h .place ≡ t = one-mul (2 ^ h .place) ∙ sym (h .power) in
-      let l : R - t < 2 ^ h .place = omega (arith, h .most, h .power) in
-      let q : t + (R - t) ≡ R = omega (arith, h .within) in
-      rw (e, q) at (or-shifted 1 (h .place) (R - t) l)
-
-  top-in : (i : ℕ) → T (bit t i) → T (bit R i)
-  top-in i u = subst (λ (x : ℕ). T (bit x i)) parts (or-left t (R - t) i u)
-
-  rest-in : (i : ℕ) → T (bit (R - t) i) → T (bit R i)
-  rest-in i u = subst (λ (x : ℕ). T (bit x i)) parts (or-right t (R - t) i u)
-
-  in-parts : (i : ℕ) → T (bit R i) → T (bit t i) ⊎ T (bit (R - t) i)
-  in-parts i u = in-or t (R - t) i (subst (λ (x : ℕ). T (bit x i)) (sym parts) u)
-
-  top-only : (i : ℕ) → T (bit t i) → i ≡ h .place
-  top-only i u = eqb-true i (h .place) (sym (bit-pow (h .place) i) ∙ ap (λ (x : ℕ). bit x i) (sym (h .power)) ∙ T-true (bit t i) u)
-
-  module _ (J : ℕ) where
-    out-wider : (i : ℕ) → T (bit (bitOr J (R - t)) i) → T (bit (bitOr J R) i)
-    out-wider i u = ⊎-elim (λ a. or-left J R i a) (λ b. or-right J R i (rest-in i b)) (in-or J (R - t) i u)
-
-    in-wider : (i : ℕ) → T (bit (bitOr (bitOr J t) (R - t)) i) → T (bit (bitOr J R) i)
-    in-wider i u = ⊎-elim
-        (λ a. ⊎-elim (λ x. or-left J R i x) (λ y. or-right J R i (top-in i y)) (in-or J t i a))
-        (λ b. or-right J R i (rest-in i b))
-        (in-or (bitOr J t) (R - t) i u)
-
-    -- the words of the two branches are within the whole
-    pub out-inside : (I : ℕ) → Inside (bitOr J R) I → Inside (bitOr J (R - t)) I
-    out-inside I s = inside-bits (bitOr J (R - t)) I .1 (λ i u. inside-bits (bitOr J R) I .0 s i (out-wider i u))
-
-    pub in-inside : (I : ℕ) → Inside (bitOr J R) I → Inside (bitOr (bitOr J t) (R - t)) I
-    in-inside I s = inside-bits (bitOr (bitOr J t) (R - t)) I .1 (λ i u. inside-bits (bitOr J R) I .0 s i (in-wider i u))
-
-    -- what lies in a branch lies in the whole, and what lies in the whole lies in a branch
-    from-out : (K : ℕ) → Between J (R - t) K → Between J R K
-    from-out K b = record { holds = b .holds; within = λ i u. out-wider i (b .within i u) }
-
-    from-in : (K : ℕ) → Between (bitOr J t) (R - t) K → Between J R K
-    from-in K b = record { holds = λ i u. b .holds i (or-left J t i u); within = λ i u. in-wider i (b .within i u) }
-
-    branches : (K : ℕ) → Between J R K → Between J (R - t) K ⊎ Between (bitOr J t) (R - t) K
-    branches K b = ⊎-elim with-top without-top (T? (bit K (h .place)))
-      where
-        with-top : T (bit K (h .place)) → Between J (R - t) K ⊎ Between (bitOr J t) (R - t) K
-        with-top u = inr (record {
-          holds = λ i v. ⊎-elim (λ a. b .holds i a) (λ c. subst (λ (j : ℕ). T (bit K j)) (sym (top-only i c)) u) (in-or J t i v);
-          within = λ i v. ⊎-elim
-              (λ a. or-left (bitOr J t) (R - t) i (or-left J t i a))
-              (λ r. ⊎-elim (λ c. or-left (bitOr J t) (R - t) i (or-right J t i c)) (λ d. or-right (bitOr J t) (R - t) i d) (in-parts i r))
-              (in-or J R i (b .within i v));
-        })
-
-        without-top : (T (bit K (h .place)) → ⊥) → Between J (R - t) K ⊎ Between (bitOr J t) (R - t) K
-        without-top f = inl (record {
-          holds = b .holds;
-          within = λ i v. ⊎-elim
-              (λ a. or-left J (R - t) i a)
-              (λ r. ⊎-elim (λ c. absurd (f (subst (λ (j : ℕ). T (bit K j)) (top-only i c) v))) (λ d. or-right J (R - t) i d) (in-parts i r))
-              (in-or J R i (b .within i v));
-        })
+  pub in-inside : (I : ℕ) → Inside (bitOr J R) I → Inside (bitOr (bitOr J t) (R - t)) I
+  in-inside I s = inside-bits (bitOr (bitOr J t) (R - t)) I .1 (λ i u. inside-bits (bitOr J R) I .0 s i (in-wider R t h J i u))
 
 -- ---- a clause that is violated by all between
 pub model-some : (P : List Clause) (I w : ℕ) → isModel (reduct P I) w ≡ not (some (violates I w) P)

@@ -1,8 +1,7 @@
 -- The test of a live leaf in two steps: support, then smaller subsets. Assumes nothing.
-use mathlib.Core.Path.{_≡_}
 use mathlib.Core.Bool.{Bool, cond, _&&_}
 use mathlib.Core.List.{List, [], _∷_}
-use Prim.Native.Nat.{ℕ, _+_, _-_, _^_, _≤_, _<_}
+use Prim.Native.Nat.{ℕ, _-_}
 use lib.Bits.{bitAnd, bitOr}
 use Rattle.sets.specs.Lists.{some, below}
 use Rattle.sets.specs.Words.{inside, apart}
@@ -28,13 +27,6 @@ supportFrom w (c ∷ P) all = supportFrom w P (bitOr all (supports w c))
 unfoldable pub supported : List Clause → ℕ → ℕ
 unfolding supportFrom
 supported P w = supportFrom w P 0
-
--- t is the highest bit of x
-pub record Highest (x t : ℕ) : Type 0 where
-  pub place : ℕ
-  pub power : t ≡ 2 ^ place
-  pub within : t ≤ x
-  pub most : x < t + t
 
 -- some proper subset of I that holds J and nothing outside J and R satisfies the reduct by I
 unfoldable pub smallerBetween : List Clause → ℕ → ℕ → ℕ → Bool

@@ -4,13 +4,13 @@ ghost use mathlib.Core.Bool.{true, false};
 ghost use Prim.Native.Nat.{_+_, _-_, _*_, _^_, _≤_, _<_};
 ghost use lib.Bits.{bitOr};
 ghost use Rattle.sets.specs.Lists.{some};
-ghost use Rattle.sets.specs.Words.{Inside};
+ghost use Rattle.sets.specs.Words.{Inside, Highest};
 ghost use Rattle.program.specs.Clauses.{clauseOf};
 ghost use Rattle.semantics.specs.Interpretations.{isStable};
 ghost use Rattle.search.specs.Tree.{dead, nodes, isStableLeaf};
 ghost use Rattle.search.specs.Answer.{answer, Searches, Ends};
 ghost use Rattle.search.specs.Packed.{packedRows, Packs};
-ghost use Rattle.search.specs.Leaf.{rulesOut, supports, supported, Highest, smallerBetween};
+ghost use Rattle.search.specs.Leaf.{rulesOut, supports, supported, smallerBetween};
 ghost use Rattle.search.specs.Seek.{Placed, Ticked, Sought};
 use program::Program;
 

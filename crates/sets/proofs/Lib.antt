@@ -5,3 +5,4 @@ pub mod Rising
 pub mod Least
 pub mod Digits
 pub mod Subsets
+pub mod Branches

@@ -2,7 +2,7 @@
 use mathlib.Core.Path.{_≡_}
 use mathlib.Core.Bool.{Bool, not}
 use mathlib.Core.List.{List, [], _∷_}
-use Prim.Native.Nat.{ℕ, zero, suc, _/_, _%_, _^_, _<_}
+use Prim.Native.Nat.{ℕ, zero, suc, _+_, _/_, _%_, _^_, _≤_, _<_}
 use lib.Dec.{T, eqb}
 use lib.Bits.{bitAnd, bitOr}
 
@@ -54,3 +54,10 @@ pub record Next (I j m : ℕ) : Type 0 where
   pub inside : Inside m I
   pub above : j < m
   pub none : (i : ℕ) → j < i → i < m → Inside i I → ⊥
+
+-- t is the highest bit of x
+pub record Highest (x t : ℕ) : Type 0 where
+  pub place : ℕ
+  pub power : t ≡ 2 ^ place
+  pub within : t ≤ x
+  pub most : x < t + t

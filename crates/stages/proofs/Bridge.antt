@@ -1,6 +1,6 @@
 -- The stages formed here have the words that the theory's stages have. Assumes nothing.
 use Prim.Native.Nat.{ℕ, zero, suc, _^_, _<_}
-use mathlib.Core.Bool.{Bool, true, false, cond, _||_}
+use mathlib.Core.Bool.{Bool, true, false, cond}
 use mathlib.Core.List.{List, [], _∷_, map, flatMap}
 use mathlib.Core.Logic.{inl, ⊎-elim}
 use mathlib.Core.Path.{_≡_, refl, sym, ap, ap₂, _∙_, subst}
@@ -12,15 +12,14 @@ use Rattle.epistemic.proofs.Stages.{stages-end}
 use Rattle.epistemic.proofs.Words.{wchoices, wstage, in-wstage, map-flatMap, map-map, map-cond}
 use Rattle.epistemic.specs.Positive.{Rule, Same}
 use Rattle.lists.specs.Bytes.{same}
-use Rattle.sets.proofs.Digits.{bit-or, bit-ext}
 use Rattle.sets.proofs.Lists.{in-flatMap, flatMap-in, map-in, below-in, length-below}
 use Rattle.sets.proofs.Rising.{rising-ext}
 use Rattle.sets.specs.Lists.{_∈_, below, Rising}
 use Rattle.sets.specs.Words.{bit, inside, put, mask}
-use Rattle.stages.proofs.Literals.{lit-out}
-use Rattle.stages.proofs.RisingSets.{in-addAll, addAll-in, addAll-rising}
-use Rattle.stages.specs.Literals.{literals}
-use Rattle.stages.specs.Operator.{WordRule, choices, next, stage}
+use Rattle.rising.proofs.Literals.{lit-out, put-put}
+use Rattle.rising.proofs.RisingSets.{in-addAll, addAll-in, addAll-rising}
+use Rattle.rising.specs.Literals.{literals}
+use Rattle.operator.specs.Operator.{WordRule, choices, next, stage}
 
 -- a clause as two words says what a rule of the theory says
 pub record Like (c : WordRule) (r : Rule ℕ) : Type 0 where
@@ -44,18 +43,6 @@ wfrom-is : (i : ℕ) (R : List (Rule ℕ)) → wfrom i R i ≡ wchoices i R
 unfolding wfrom wchoices
 wfrom-is i [] = refl
 wfrom-is i (r ∷ R) = ap (λ (l : List ℕ). cond (inside (mask (r .body)) i) (flatMap (λ h. map (put h) l) (r .head)) l) (wfrom-is i R)
-
-put-put : (g h w : ℕ) → put h (put g w) ≡ put g (put h w)
-put-put g h w = bit-ext (put h (put g w)) (put g (put h w)) (λ k.
-    bit-or (put g w) (2 ^ h) k ∙ ap (λ b. b || bit (2 ^ h) k) (bit-or w (2 ^ g) k) ∙ swap (bit w k) (bit (2 ^ g) k) (bit (2 ^ h) k)
-    ∙ ap (λ b. b || bit (2 ^ g) k) (sym (bit-or w (2 ^ h) k)) ∙ sym (bit-or (put h w) (2 ^ g) k))
-  where
-    swap : (a b c : Bool) → ((a || b) || c) ≡ ((a || c) || b)
-    swap true b c = refl
-    swap false true true = refl
-    swap false true false = refl
-    swap false false true = refl
-    swap false false false = refl
 
 put-wfrom : (i h : ℕ) (R : List (Rule ℕ)) (j : ℕ) → map (put h) (wfrom i R j) ≡ wfrom i R (put h j)
 unfolding wfrom

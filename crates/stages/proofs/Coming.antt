@@ -12,13 +12,13 @@ use native.Mathlib.Numerals.{add-one}
 use native.Mathlib.Omega.{arith}
 use Rattle.lists.specs.Bytes.{same}
 use Rattle.sets.specs.Words.{inside}
-use Rattle.stages.proofs.Growing.{size-small, size-large}
+use Rattle.rising.proofs.Growing.{size-small, size-large}
 use Rattle.stages.proofs.Run.{same-eq, reached-next, reached-less, uncrowded, final-is, crowds}
-use Rattle.stages.proofs.Slices.{size-fits, size-over}
-use Rattle.stages.specs.Growing.{Grown}
-use Rattle.stages.specs.Operator.{WordRule, next, stage}
+use Rattle.rising.proofs.Slices.{size-fits, size-over}
+use Rattle.rising.specs.Growing.{Grown}
+use Rattle.operator.specs.Operator.{WordRule, next, stage}
 use Rattle.stages.specs.Run.{Reached, crowded, finalStage, Settled, Settling}
-use Rattle.stages.specs.Slices.{size}
+use Rattle.rising.specs.Slices.{size}
 
 -- ---- two prefixes
 

@@ -20,10 +20,10 @@ use Rattle.sets.specs.Lists.{_∈_, Some, sift, some, Each}
 use Rattle.sets.specs.Words.{inside, mask}
 use Rattle.sets.proofs.Least.{least-hit, least-le}
 use Rattle.stages.proofs.Bridge.{Alike, stage-to, stage-of, stage-rests}
-use Rattle.stages.proofs.Literals.{lit-in, lit-out}
+use Rattle.rising.proofs.Literals.{lit-in, lit-out}
 use Rattle.stages.proofs.Run.{same-eq}
 use Rattle.stages.specs.Minimal.{violates, satisfies, properIn, leastIn, minimals}
-use Rattle.stages.specs.Operator.{WordRule, next, stage}
+use Rattle.operator.specs.Operator.{WordRule, next, stage}
 use Rattle.stages.specs.Run.{finalStage, resting, ending}
 
 -- ---- laws

@@ -1,11 +1,11 @@
 -- The run of the stages: where it ends, and whether the working room holds them. Assumes nothing.
-use Prim.Native.Nat.{ℕ, zero, suc, _+_, _≤_, _<_}
+use Prim.Native.Nat.{ℕ, suc, _+_, _≤_, _<_}
 use borrow.Author.Tests.{lt-ltb, le-ltb}
-use lib.Dec.{T, eqb, ltb, eqb→eq}
+use lib.Dec.{T, ltb}
 use lib.ListN.{length}
-use mathlib.Core.Bool.{Bool, true, false, cond, _||_}
-use mathlib.Core.List.{List, [], _∷_}
-use mathlib.Core.Path.{_≡_, refl, sym, ap, ap₂, _∙_, subst}
+use mathlib.Core.Bool.{Bool, true, false}
+use mathlib.Core.List.{List}
+use mathlib.Core.Path.{_≡_, sym, ap, _∙_, subst}
 use native.Mathlib.Decide.{decLe, decLt}
 use native.Mathlib.Omega.{arith}
 use Rattle.sets.specs.Lists.{some, below}
@@ -16,7 +16,7 @@ use Rattle.sets.proofs.Least.{least-is, least-none, least-late}
 use Rattle.lists.specs.Bytes.{same}
 use Rattle.lists.proofs.Loops.{same-self, same-true}
 use Rattle.stages.proofs.Bridge.{stage-rests}
-use Rattle.stages.specs.Operator.{WordRule, next, stage}
+use Rattle.operator.specs.Operator.{WordRule, stage}
 use Rattle.stages.specs.Run.{resting, ending, finalStage, crowded, Reached}
 
 pub same-eq : (a b : List ℕ) → T (same a b) → a ≡ b

@@ -12,13 +12,13 @@ use native.Mathlib.Omega.{arith}
 use borrow.Author.Needs.{needs}
 use Rattle.sets.specs.Lists.{sift, some}
 use Rattle.sets.proofs.Tests.{clash}
-use Rattle.stages.specs.Slices.{Sifted}
-use Rattle.stages.specs.Operator.{WordRule, rulesFrom, stage}
+use Rattle.rising.specs.Slices.{Sifted}
+use Rattle.operator.specs.Operator.{WordRule, stage}
 use Rattle.stages.specs.Run.{finalStage, crowded, Settled, Settling}
 use Rattle.stages.specs.Minimal.{violates, satisfies, properIn, leastIn, minimals, minimalModels, Minimals}
 use Rattle.stages.proofs.Run.{crowded-start, reached-start}
 use Rattle.stages.proofs.Minimal.{any-none, any-one, sift-one, sift-none}
-use Rattle.stages.proofs.Stepping.{passing-start, passing-hit, passing-miss, passing-done}
+use Rattle.operator.proofs.Stepping.{passing-start, passing-hit, passing-miss, passing-done}
 
 -- ---- the tests
 

@@ -1,8 +1,3 @@
--- The stages of a positive program on words; the laws stand in proofs/.
-pub mod Literals
-pub mod RisingSets
-pub mod Operator
+-- The run of the stages on words, and what is taken of the last; the laws stand in proofs/.
 pub mod Run
 pub mod Minimal
-pub mod Slices
-pub mod Growing

@@ -8,7 +8,7 @@ use mathlib.Core.Path.{_≡_}
 use lib.ListN.{length, take}
 use Rattle.sets.specs.Lists.{sift, some}
 use Rattle.sets.specs.Words.{inside}
-use Rattle.stages.specs.Operator.{WordRule}
+use Rattle.operator.specs.Operator.{WordRule}
 use Rattle.stages.specs.Run.{finalStage, crowded}
 
 -- w contains the body of c and meets its head nowhere

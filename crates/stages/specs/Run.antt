@@ -8,7 +8,7 @@ use mathlib.Core.Path.{_≡_}
 use Rattle.lists.specs.Bytes.{same}
 use Rattle.sets.specs.Lists.{some, below}
 use Rattle.sets.specs.Least.{least}
-use Rattle.stages.specs.Operator.{WordRule, stage}
+use Rattle.operator.specs.Operator.{WordRule, stage}
 
 -- The first stage that its successor equals: "a stage equal to its successor is reached at stage W + 1 at the latest", and W is at most 64.
 unfoldable pub resting : List WordRule → ℕ

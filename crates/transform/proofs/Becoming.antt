@@ -17,9 +17,9 @@ use Rattle.epistemic.proofs.Slots.{mask-++, mask-shift}
 use Rattle.program.specs.Clauses.{Clause}
 use Rattle.sets.proofs.Digits.{bit-or, bit-ext}
 use Rattle.sets.specs.Words.{bit, mask, put}
-use Rattle.stages.proofs.Literals.{low-lt, literals-low, literals-none}
-use Rattle.stages.specs.Literals.{literals, low}
-use Rattle.stages.specs.Operator.{WordRule}
+use Rattle.rising.proofs.Literals.{low-lt, literals-low, literals-none}
+use Rattle.rising.specs.Literals.{literals, low}
+use Rattle.operator.specs.Operator.{WordRule}
 use Rattle.transform.proofs.Emit.{emits-as, Emitting, emitting-start, emitting-room, emitting-call, emitting-done}
 use Rattle.transform.proofs.Theory.{literals-unmask}
 use Rattle.transform.specs.Emit.{Emits, Room, forEach, oneB, oneC, eachC, eachD, standMask, headA}

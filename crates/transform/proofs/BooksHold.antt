@@ -9,9 +9,9 @@ use Rattle.lists.specs.Bytes.{same}
 use Rattle.program.specs.Clauses.{Clause}
 use Rattle.program.specs.Values.{wordOf, clauseOfValues}
 use Rattle.semantics.specs.Books.{Book, books, clausesOf, modelsOf}
-use Rattle.stages.specs.RisingSets.{insertInto, addAll}
-use Rattle.stages.specs.Literals.{bitsFrom}
-use Rattle.stages.specs.Operator.{WordRule, choices, next, stage}
+use Rattle.rising.specs.RisingSets.{insertInto, addAll}
+use Rattle.rising.specs.Literals.{bitsFrom}
+use Rattle.operator.specs.Operator.{WordRule, choices, next, stage}
 use Rattle.stages.specs.Run.{resting, ending, finalStage}
 use Rattle.stages.specs.Minimal.{violates, satisfies, properIn, leastIn, minimals, minimalModels}
 use Rattle.transform.specs.Transform.{numbered, rewritten, becomes, standIns, allStandIns, epistemic, members}

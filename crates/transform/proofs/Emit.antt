@@ -7,9 +7,9 @@ use mathlib.Core.List.{List, [], _∷_, _++_, append-assoc, append-nil, flatMap}
 use mathlib.Core.Path.{_≡_, refl, sym, ap, ap₂, _∙_, subst}
 use native.Mathlib.Numerals.{add-one}
 use native.Mathlib.Omega.{arith}
-use Rattle.stages.proofs.Literals.{low-lt, literals-low, literals-none, trailing-lt}
-use Rattle.stages.specs.Literals.{literals, low}
-use Rattle.stages.specs.Operator.{WordRule, rulesFrom}
+use Rattle.rising.proofs.Literals.{low-lt, literals-low, literals-none, trailing-lt}
+use Rattle.rising.specs.Literals.{literals, low}
+use Rattle.operator.specs.Operator.{WordRule, rulesFrom}
 use Rattle.transform.specs.Emit.{Emits, Room, forEach}
 use Rattle.transform.specs.Transform.{Stand, numbered}
 

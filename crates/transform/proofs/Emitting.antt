@@ -14,8 +14,8 @@ use mir.Val.{Fits}
 use native.Mathlib.Nat.{one-mul, add-zero}
 use native.Mathlib.Omega.{arith}
 use Rattle.sets.specs.Words.{mask}
-use Rattle.stages.specs.Literals.{here, bitsFrom, literals, low}
-use Rattle.stages.specs.Operator.{WordRule, rulesFrom}
+use Rattle.rising.specs.Literals.{here, bitsFrom, literals, low}
+use Rattle.operator.specs.Operator.{WordRule, rulesFrom}
 use Rattle.transform.proofs.Emit.{emits-one, emits-as, Walk, walk-start, walk-literal, walk-place, walk-room, walk-step, walk-less, walk-heads, walk-bodies, walk-done}
 use Rattle.transform.specs.Emit.{Emits, Room, forEach, oneB, oneC, eachC, eachD}
 use Rattle.transform.specs.Transform.{Stand, numbered, clauseB, clauseC, clauseD}

@@ -25,10 +25,10 @@ use Rattle.sets.proofs.Rising.{rising-ext, sift-rising, below-rising}
 use Rattle.sets.proofs.Tests.{T?}
 use Rattle.sets.specs.Lists.{_∈_, Each, sift, below, Rising}
 use Rattle.sets.specs.Words.{bit, mask}
-use Rattle.stages.proofs.Literals.{lit-in, lit-out, bits-rising}
+use Rattle.rising.proofs.Literals.{lit-in, lit-out, bits-rising}
 use Rattle.stages.proofs.Minimal.{wordRule}
-use Rattle.stages.specs.Literals.{literals}
-use Rattle.stages.specs.Operator.{WordRule}
+use Rattle.rising.specs.Literals.{literals}
+use Rattle.operator.specs.Operator.{WordRule}
 use Rattle.transform.specs.Transform.{Stand, numbered, rule, clauseA, clauseB, clauseC, clauseD, rewritten, becomes, standIns, epistemic, allStandIns, members}
 use Rattle.epistemic.specs.Transform as theory
 

@@ -7,8 +7,8 @@ use Rattle.program.specs.Clauses.{Clause}
 use Rattle.program.proofs.Validity.{Below}
 use Rattle.sets.specs.Lists.{Each}
 use Rattle.sets.specs.Words.{mask}
-use Rattle.stages.specs.Literals.{literals}
-use Rattle.stages.specs.Operator.{WordRule, rulesFrom}
+use Rattle.rising.specs.Literals.{literals}
+use Rattle.operator.specs.Operator.{WordRule, rulesFrom}
 use Rattle.transform.specs.Transform.{Stand, numbered, clauseB, clauseC, clauseD}
 
 -- the clauses X were put behind the first `at`: r and the slices at exit

@@ -4,8 +4,8 @@ use mathlib.Core.List.{List, map}
 use Prim.Native.Nat.{ℕ, _/_, _%_, _^_}
 use Rattle.sets.specs.Lists.{sift}
 use Rattle.sets.specs.Words.{inside}
-use Rattle.stages.specs.RisingSets.{gather}
-use Rattle.stages.specs.Operator.{WordRule}
+use Rattle.rising.specs.RisingSets.{gather}
+use Rattle.operator.specs.Operator.{WordRule}
 use Rattle.stages.specs.Minimal.{minimalModels}
 
 -- the literals stand at the m lowest bits, K of each m bits higher

@@ -4,7 +4,7 @@ ghost use mathlib.Core.List.{List, [], _∷_, map};
 ghost use Prim.Native.Nat.{ℕ, _+_, _^_, _≤_, _<_};
 ghost use lib.ListN.{length};
 ghost use Rattle.sets.specs.Words.{mask};
-ghost use Rattle.stages.specs.Literals.{literals};
+ghost use Rattle.rising.specs.Literals.{literals};
 ghost use Rattle.transform.specs.Transform.{clauseD, standIns, becomes, allStandIns, members, epistemic};
 ghost use Rattle.transform.specs.Emit.{Emits, Room, Book, forEach, oneB, oneC, eachC, eachD, standMask, headA, clausesFrom};
 
@@ -51,7 +51,7 @@ fn emit_b(head: u64, s: u32, hs: &mut [u64], bs: &mut [u64], at: usize) -> usize
     let mut p = s;
     let mut n = at;
     while rest != 0 {
-        n = push_b(stages::lowest(rest), p, hs, bs, n);
+        n = push_b(rising::lowest(rest), p, hs, bs, n);
         rest = rest & (rest - 1);
         p += 1;
     }
@@ -74,7 +74,7 @@ fn emit_c_one(a: u32, naf: u64, hs: &mut [u64], bs: &mut [u64], at: usize) -> us
     let mut rest = naf;
     let mut n = at;
     while rest != 0 {
-        n = push_c(a, stages::lowest(rest), hs, bs, n);
+        n = push_c(a, rising::lowest(rest), hs, bs, n);
         rest = rest & (rest - 1);
     }
     n
@@ -116,7 +116,7 @@ fn emit_d_one(t: u32, p: u32, head: u64, s: u32, hs: &mut [u64], bs: &mut [u64],
     let mut q = s;
     let mut n = at;
     while rest != 0 {
-        n = push_d(t, p, stages::lowest(rest), q, hs, bs, n);
+        n = push_d(t, p, rising::lowest(rest), q, hs, bs, n);
         rest = rest & (rest - 1);
         q += 1;
     }
@@ -132,7 +132,7 @@ fn emit_d(head: u64, s: u32, hs: &mut [u64], bs: &mut [u64], at: usize) -> usize
     let mut p = s;
     let mut n = at;
     while rest != 0 {
-        n = emit_d_one(stages::lowest(rest), p, head, s, hs, bs, n);
+        n = emit_d_one(rising::lowest(rest), p, head, s, hs, bs, n);
         rest = rest & (rest - 1);
         p += 1;
     }
@@ -148,7 +148,7 @@ fn stand_mask(head: u64, s: u32) -> u64
     let mut p = s;
     let mut w: u64 = 0;
     while rest != 0 {
-        w = stages::with(w, p);
+        w = rising::with(w, p);
         rest = rest & (rest - 1);
         p += 1;
     }

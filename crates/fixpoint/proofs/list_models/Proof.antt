@@ -4,7 +4,7 @@ use Prim.Native.Nat.{min}
 use native.Mathlib.Omega.{arith}
 use lib.ListN.{length, take}
 use lib.Seq.{length-take-le}
-use Rattle.stages.specs.Operator.{rulesFrom}
+use Rattle.operator.specs.Operator.{rulesFrom}
 use Rattle.fixpoint.proofs.Answering.{room-as}
 use Rattle.fixpoint.proofs.Rules.{rules}
 use Rattle.fixpoint.proofs.list_models.Statement.{statement}

@@ -3,7 +3,8 @@ use Prim.Native.Nat.{ℕ, _<_}
 use native.Mathlib.Omega.{arith}
 use borrow.Fn.Kinds.{In}
 use borrow.Fn.PlainCycle.{Measures, is, falls, and}
-use Rattle.search.proofs.Subsets.{rest-less, out-inside, in-inside, branch-end, branch-out, branch-in}
+use Rattle.sets.proofs.Branches.{rest-less}
+use Rattle.search.proofs.Subsets.{out-inside, in-inside, branch-end, branch-out, branch-in}
 use Rattle.search.proofs.Rules.{rules}
 use Rattle.search.proofs.has_smaller.Reads as has-smaller
 use Rattle.search.proofs.has_smaller.Kinds as has-smaller-kinds

@@ -2,7 +2,7 @@
 use Rattle.stages.proofs.Coming.{settling}
 use Rattle.stages.proofs.Coming.{settle-less}
 use Rattle.stages.proofs.Coming.{settle-on}
-use Rattle.stages.specs.Operator.{rulesFrom}
+use Rattle.operator.specs.Operator.{rulesFrom}
 use native.Mathlib.Omega.{arith}
 use Prim.Native.Nat.{ℕ, _<_, _-_}
 use borrow.Fn.Kinds.{In}
@@ -11,7 +11,7 @@ use Rattle.stages.proofs.settle.Reads as settle
 use Rattle.stages.proofs.settle.Kinds as settle-kinds
 use Rattle.stages.proofs.+settle.Lts-settle as settle-lts
 use Rattle.stages.proofs.same_words.Reads as same-words-reads
-use Rattle.stages.proofs.step.Reads as step-reads
+use Rattle.operator.proofs.step.Reads as step-reads
 use Rattle.stages.proofs.+settle.{statement}
 use Rattle.stages.proofs.+settle.Tie.{close}
 

@@ -1,6 +1,6 @@
 -- `stages::keep_models` meets its contract. Assumes nothing.
 use Prim.Native.Nat.{_-_}
-use Rattle.stages.specs.Operator.{rulesFrom}
+use Rattle.operator.specs.Operator.{rulesFrom}
 use Rattle.stages.specs.Minimal.{satisfies}
 use Rattle.stages.proofs.Selecting.{Sifting}
 use Rattle.stages.proofs.Rules.{rules}

@@ -1,7 +1,7 @@
 -- `stages::violated` meets its contract. Assumes nothing.
 use Prim.Native.Nat.{_-_}
 use Rattle.stages.specs.Minimal.{violates}
-use Rattle.stages.proofs.Stepping.{Passing}
+use Rattle.operator.proofs.Stepping.{Passing}
 use Rattle.stages.proofs.Selecting.{selecting}
 use Rattle.stages.proofs.violated.Statement.{statement}
 use Rattle.stages.proofs.violated.Tie as tie

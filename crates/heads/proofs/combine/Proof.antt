@@ -1,0 +1,7 @@
+-- `heads::combine` meets its contract. Assumes nothing.
+use Rattle.heads.proofs.Rules.{scans}
+use Rattle.heads.proofs.combine.Statement.{statement}
+use Rattle.heads.proofs.combine.Tie as tie
+
+pub combine-spec : {M : Type 1} → statement M
+combine-spec = tie.close (tie.spec (λ c. search scans) (λ c. search scans) (λ c. search scans) (λ c. search scans) (λ c. search scans))

@@ -1,0 +1,15 @@
+-- `heads::meeting` meets its contract. Assumes nothing.
+use Prim.Native.Nat.{_-_}
+use Rattle.heads.proofs.Loops.{Meeting}
+use Rattle.heads.proofs.Rules.{loops}
+use Rattle.heads.proofs.meeting.Statement.{statement}
+use Rattle.heads.proofs.meeting.Tie as tie
+
+abbrev Inv-loop : tie.InvT-loop
+Inv-loop wide n x m₀ k₀ m k = Meeting wide n x m k
+
+abbrev μ-loop : tie.MeasureT-loop
+μ-loop wide n x m₀ k₀ m k = n - k
+
+pub meeting-spec : {M : Type 1} → statement M
+meeting-spec = tie.close (tie.spec Inv-loop μ-loop (λ c. search loops) (λ c. search loops) (λ c. search loops) (λ c. search loops) (λ c. search loops) (λ c. search loops) (λ c. search loops) (λ c. search loops) (λ c. search loops) (λ c. search loops) (λ c. search loops))

@@ -1,0 +1,15 @@
+-- `heads::offered` meets its contract. Assumes nothing.
+use Prim.Native.Nat.{_-_}
+use Rattle.heads.proofs.Loops.{Joining}
+use Rattle.heads.proofs.Rules.{loops}
+use Rattle.heads.proofs.offered.Statement.{statement}
+use Rattle.heads.proofs.offered.Tie as tie
+
+abbrev Inv-loop : tie.InvT-loop
+Inv-loop wide n all₀ k₀ all k = Joining wide n all k
+
+abbrev μ-loop : tie.MeasureT-loop
+μ-loop wide n all₀ k₀ all k = n - k
+
+pub offered-spec : {M : Type 1} → statement M
+offered-spec = tie.close (tie.spec Inv-loop μ-loop (λ c. search loops) (λ c. search loops) (λ c. search loops) (λ c. search loops) (λ c. search loops) (λ c. search loops) (λ c. search loops))

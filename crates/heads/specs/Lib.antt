@@ -1,0 +1,2 @@
+-- The sets made of one literal of each of some heads; the laws stand in proofs/.
+pub mod Heads

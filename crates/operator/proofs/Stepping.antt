@@ -1,0 +1,120 @@
+-- One stage from the one before. Assumes nothing.
+use Prim.Native.Nat.{ℕ, _+_, _-_, _≤_, _<_}
+use borrow.Author.Needs.{needs}
+use lib.Bits.{bitAnd}
+use lib.Dec.{eqb}
+use lib.ListN.{length, getD, take, drop, drop-of-length-le}
+use lib.Seq.{drop-cons, length-take-le, getD-take}
+use mathlib.Core.Bool.{Bool, true, false, _&&_, _||_}
+use mathlib.Core.List.{List, _∷_, _++_, flatMap}
+use mathlib.Core.Path.{_≡_, refl, sym, ap, ap₂, _∙_, subst}
+use native.Mathlib.Numerals.{add-one}
+use native.Mathlib.Omega.{arith}
+use Rattle.sets.specs.Lists.{Rising, some}
+use Rattle.sets.specs.Words.{inside}
+use Rattle.rising.proofs.Growing.{Growing, grown-as, grow-start, grow-call, grow-done, grow-over}
+use Rattle.heads.specs.Heads.{headsFrom, picks}
+use Rattle.heads.proofs.Loops.{heads-none}
+use Rattle.operator.proofs.Operator.{rules-none, rules-one, choices-picks, barred-none, next-is}
+use Rattle.rising.proofs.RisingSets.{nothing-rises}
+use Rattle.rising.proofs.Slices.{size-fits}
+use Rattle.rising.specs.Growing.{Grown}
+use Rattle.operator.specs.Operator.{WordRule, rulesFrom, choices, fired, bars, barred, next, Chosen}
+use Rattle.rising.specs.RisingSets.{addAll}
+
+pub bars-is : (i head body : ℕ) → (eqb head 0 && eqb (bitAnd body i) body) ≡ bars i (record { head = head; body = body })
+unfolding bars
+bars-is i head body = refl
+
+-- ---- no clause before k passes the test
+
+pub record Passing (t : WordRule → Bool) (hs bs : List ℕ) (count k : ℕ) : Type 0 where
+  pub within : k ≤ count
+  pub same : some t (rulesFrom hs bs k (count - k)) ≡ some t (rulesFrom hs bs 0 count)
+
+module _ (t : WordRule → Bool) (hs bs : List ℕ) (count : ℕ) where
+  pub passing-start : Passing t hs bs count 0
+  passing-start = let e : count - 0 ≡ count = omega arith in record { within = omega arith; same = ap (λ (n : ℕ). some t (rulesFrom hs bs 0 n)) e }
+
+  module _ (k : ℕ) (u : Passing t hs bs count k) where
+    here : k < count → (b : Bool) → t (record { head = getD hs k 0; body = getD bs k 0 }) ≡ b
+        → _||_ b (some t (rulesFrom hs bs (k + 1) (count - (k + 1)))) ≡ some t (rulesFrom hs bs 0 count)
+    unfolding some
+    here h b e = sym (ap (λ (x : Bool). _||_ x (some t (rulesFrom hs bs (k + 1) (count - (k + 1))))) e) ∙ ap (some t) (sym (rules-one hs bs k count h)) ∙ u .same
+
+    pub passing-hit : (b : Bool) → k < count → b ≡ t (record { head = getD hs k 0; body = getD bs k 0 }) → b ≡ true → true ≡ some t (rulesFrom hs bs 0 count)
+    passing-hit b h e y = here h true (sym e ∙ y)
+
+    pub passing-miss : (b : Bool) → k < count → b ≡ t (record { head = getD hs k 0; body = getD bs k 0 }) → b ≡ false → Passing t hs bs count (k + 1)
+    passing-miss b h e y = record { within = omega arith; same = here h false (sym e ∙ y) }
+
+    pub passing-done : count ≤ k → false ≡ some t (rulesFrom hs bs 0 count)
+    unfolding some
+    passing-done h = sym (ap (some t) (rules-none hs bs k (count - k) (omega arith))) ∙ u .same
+
+-- ---- what one member gives
+
+module _ (hs bs : List ℕ) (count i : ℕ) (xs : List ℕ) (held : ℕ) where
+  pub gives-none : (b : Bool) → held ≤ length xs → b ≡ barred i (rulesFrom hs bs 0 count) → b ≡ true
+      → Grown (length xs) (addAll (choices i (rulesFrom hs bs 0 count) i) (take held xs)) xs held
+  unfolding addAll
+  gives-none b h e t = grown-as (length xs) (take held xs) (addAll (choices i (rulesFrom hs bs 0 count) i) (take held xs)) xs held
+      (ap (λ (l : List ℕ). addAll l (take held xs)) (barred-none i (rulesFrom hs bs 0 count) (sym e ∙ t) i))
+      (let l = length-take-le held xs h in record { count = sym (size-fits (length xs) (take held xs) (omega arith) ∙ l); words = λ k. refl })
+
+  -- no head is set aside yet
+  pub gives-all : (ws vs out : List ℕ) (r : ℕ) → Chosen (length xs) (addAll (picks (headsFrom ws 0 0 ++ fired i (rulesFrom hs bs 0 (count - 0))) i) (take held xs)) out r 0 ws vs
+      → Grown (length xs) (addAll (choices i (rulesFrom hs bs 0 count) i) (take held xs)) out r
+  gives-all ws vs out r g =
+      let e : count - 0 ≡ count = omega arith in
+      grown-as (length xs) (addAll (picks (headsFrom ws 0 0 ++ fired i (rulesFrom hs bs 0 (count - 0))) i) (take held xs)) (addAll (choices i (rulesFrom hs bs 0 count) i) (take held xs)) out r
+      (ap (λ (l : List ℕ). addAll l (take held xs)) (choices-picks i (rulesFrom hs bs 0 count) i
+      ∙ sym (ap (λ (A : List ℕ). picks (A ++ fired i (rulesFrom hs bs 0 (count - 0))) i) (heads-none ws 0 0 (omega arith)) ∙ ap (λ (m : ℕ). picks (fired i (rulesFrom hs bs 0 m)) i) e)))
+      (g .grown)
+
+-- ---- the members from p on have still to give
+
+pub record Stepping (Q : List WordRule) (now : List ℕ) (members : ℕ) (xs ys : List ℕ) (n p : ℕ) : Type 0 where
+  pub inside : members ≤ length now
+  pub within : p ≤ members
+  pub grows : Growing (length xs) (next Q (take members now)) (flatMap (λ i. choices i Q i) (drop p (take members now))) ys n
+
+module _ (Q : List WordRule) (now : List ℕ) (members : ℕ) (xs : List ℕ) where
+  pub step-start : members ≤ length now → Stepping Q now members xs xs 0 0
+  step-start h = record {
+    inside = h;
+    within = omega arith;
+    grows = subst (λ (l : List ℕ). Growing (length xs) l (flatMap (λ i. choices i Q i) (take members now)) xs 0) (next-is Q (take members now))
+        (grow-start xs (flatMap (λ i. choices i Q i) (take members now)) 0 (omega arith) nothing-rises);
+  }
+
+  module _ (ys : List ℕ) (n p : ℕ) (s : Stepping Q now members xs ys n p) where
+    pub step-over : length ys < n → Grown (length xs) (next Q (take members now)) ys n
+    step-over h = grow-over (length xs) (next Q (take members now)) (flatMap (λ i. choices i Q i) (drop p (take members now))) ys n (s .grows) (omega (arith, s .grows .long))
+
+    pub step-done : members ≤ p → Grown (length xs) (next Q (take members now)) ys n
+    unfolding flatMap
+    step-done h = grow-done (length xs) (next Q (take members now)) (flatMap (λ i. choices i Q i) (drop p (take members now))) ys n (s .grows)
+        (ap (flatMap (λ i. choices i Q i)) (drop-of-length-le (take members now) {i = p} (omega (arith, length-take-le members now (s .inside)))))
+
+    pub step-long : length ys ≡ length xs
+    step-long = s .grows .long
+
+    pub step-rises : n ≤ length ys → Rising (take n ys)
+    step-rises h = s .grows .rises (omega (arith, s .grows .long))
+
+    pub step-next : (out : List ℕ) (r : ℕ) → p < members → n ≤ length ys → Grown (length ys) (addAll (choices (getD now p 0) Q (getD now p 0)) (take n ys)) out r → length out ≡ length ys
+        → Stepping Q now members xs out r (p + 1)
+    unfolding flatMap
+    step-next out r h k g l =
+        let len = length-take-le members now (s .inside) in
+        record {
+          inside = s .inside;
+          within = omega arith;
+          grows = grow-call (length xs) (next Q (take members now)) (choices (getD now p 0) Q (getD now p 0)) (flatMap (λ i. choices i Q i) (drop p (take members now)))
+              (flatMap (λ i. choices i Q i) (drop (p + 1) (take members now))) ys out n r (s .grows)
+              (ap (flatMap (λ i. choices i Q i)) (drop-cons (take members now) p 0 (omega arith) ∙ ap₂ (λ (x : ℕ) (m : ℕ). x ∷ drop m (take members now)) (getD-take members now p 0 h) (sym (add-one p))))
+              (omega (arith, s .grows .long)) g l;
+        }
+
+pub ruleset stepping = (bars-is, passing-start, passing-hit, passing-miss, passing-done, gives-none, gives-all, nothing-rises, step-start, step-over, step-done, step-long, step-rises, step-next, needs)

@@ -1,0 +1,7 @@
+-- `operator::give` meets its contract. Assumes nothing.
+use Rattle.operator.proofs.Stepping.{stepping}
+use Rattle.operator.proofs.give.Statement.{statement}
+use Rattle.operator.proofs.give.Tie as tie
+
+pub give-spec : {M : Type 1} → statement M
+give-spec = tie.close (tie.spec (λ c. search stepping) (λ c. search stepping) (λ c. search stepping) (λ c. search stepping) (λ c. search stepping))

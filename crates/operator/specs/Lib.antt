@@ -1,0 +1,2 @@
+-- The operator on words; the laws stand in proofs/.
+pub mod Operator

@@ -1,0 +1,8 @@
+-- `rising::stands` meets its contract. Assumes nothing.
+use borrow.Author.Needs.{needs}
+use Rattle.rising.proofs.Inserting.{inserting}
+use Rattle.rising.proofs.stands.Statement.{statement}
+use Rattle.rising.proofs.stands.Tie as tie
+
+pub stands-spec : {M : Type 1} → statement M
+stands-spec = tie.close (tie.spec (λ c. search needs) (λ c. search needs) (λ c. search inserting) (λ c. search inserting))

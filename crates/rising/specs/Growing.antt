@@ -1,0 +1,11 @@
+-- A set that grows in the first places of a slice. Assumes nothing.
+use Prim.Native.Nat.{ℕ, _≤_}
+use lib.ListN.{length, take}
+use mathlib.Core.List.{List}
+use mathlib.Core.Path.{_≡_}
+use Rattle.rising.specs.Slices.{size}
+
+-- r and the list at exit, where the set `all` was to be formed in so many places: the number of its members, which stand in the first places, or one more than there are places
+pub record Grown (room : ℕ) (all out : List ℕ) (r : ℕ) : Type 0 where
+  pub count : r ≡ size room all
+  pub words : length all ≤ room → take r out ≡ all

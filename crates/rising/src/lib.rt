@@ -1,0 +1,89 @@
+// Rising sets of 64-bit words in lent slices, and the literals of a word.
+ghost use mathlib.Core.Path.{_≡_};
+ghost use Prim.Native.Nat.{_≤_, _<_};
+ghost use lib.ListN.{length, take};
+ghost use lib.Count.{trailingZeros};
+ghost use Rattle.sets.specs.Lists.{Rising};
+ghost use Rattle.sets.specs.Words.{inside, put};
+ghost use Rattle.rising.specs.RisingSets.{insertInto, rank};
+ghost use Rattle.rising.specs.Slices.{opened, standsAt, Put};
+
+// The place of `x` in the rising first `count` places: how many of them are below it.
+fn place(set: &[u64], count: usize, x: u64) -> usize
+    requires { ⌜ (count ≤ length (now set)) × Rising (take count (now set)) ⌝ }
+    ensures { λ r. ⌜ (r ≡ rank x (take count (now (set .entry)))) × (r ≤ count) ⌝ }
+{
+    let mut lo: usize = 0;
+    let mut hi = count;
+    while lo < hi {
+        let mid = lo + (hi - lo) / 2;
+        if set[mid] < x {
+            lo = mid + 1;
+        } else {
+            hi = mid;
+        }
+    }
+    lo
+}
+
+// Moves the members from `at` to `count` up by one place.
+fn open(set: &mut [u64], at: usize, count: usize)
+    requires { ⌜ (at ≤ count) × (count < length (now set)) ⌝ }
+    ensures { λ r. ⌜ now (set .exit) ≡ opened (now (set .entry)) at count ⌝ }
+{
+    let mut p = count;
+    while at < p {
+        set[p] = set[p - 1];
+        p -= 1;
+    }
+}
+
+// Whether `x` stands at `at`, among the first `count` places.
+fn stands(set: &[u64], count: usize, at: usize, x: u64) -> bool
+    requires { ⌜ count ≤ length (now set) ⌝ }
+    ensures { λ r. ⌜ r ≡ standsAt (now (set .entry)) count at x ⌝ }
+{
+    if at < count {
+        return set[at] == x;
+    }
+    false
+}
+
+// Puts `x` into the set in the first `count` places; gives the number of members, or one more than there are places where it would be one too many.
+pub fn insert(set: &mut [u64], count: usize, x: u64) -> usize
+    requires { ⌜ (count ≤ length (now set)) × Rising (take count (now set)) ⌝ }
+    ensures { λ r. ⌜ Put (now (set .entry)) (now (set .exit)) (insertInto x (take count (now (set .entry)))) r ⌝ }
+{
+    let at = place(set, count, x);
+    if stands(set, count, at, x) {
+        return count;
+    }
+    if count == set.len() {
+        return count + 1;
+    }
+    open(set, at, count);
+    set[at] = x;
+    count + 1
+}
+
+// Whether `a` is a subset of `b`.
+pub fn subset(a: u64, b: u64) -> bool
+    ensures { λ r. ⌜ r ≡ inside a b ⌝ }
+{
+    a & b == a
+}
+
+// `j` with the literal `t`.
+pub fn with(j: u64, t: u32) -> u64
+    requires { ⌜ t < 64 ⌝ }
+    ensures { λ r. ⌜ r ≡ put t j ⌝ }
+{
+    j | (1 << t)
+}
+
+// The lowest literal of `s`.
+pub fn lowest(s: u64) -> u32
+    ensures { λ r. ⌜ r ≡ trailingZeros 64 s ⌝ }
+{
+    u64::trailing_zeros(s)
+}
