@@ -33,7 +33,7 @@ use Rattle.search.specs.declared.SearchAnswer.{SearchAnswer}
 use Rattle.search.specs.Tree.{Node, hits}
 use Rattle.search.specs.Answer.{answer, overfull, fullAt, runAnswer, leafOf, nodesOf, answerOf, exitOf, listed, Searches}
 use Rattle.search.proofs.Runs.{accepted, same-places}
-use Rattle.reporting.specs.Lines.{byte, tailText, bothText, refusedWord, outcomeWord, refusedLine, lastLine, modelLines, listing}
+use Rattle.reporting.specs.Lines.{byte, tailText, bothText, refusedWord, outcomeWord, numbered, refusedLine, lastLine, modelLines, listing}
 
 -- ---- one byte
 pub one-wrote : (b : ℕ) (xs : List ℕ) → 1 ≤ length xs → Wrote (byte b) xs 1 (set xs 0 b)
@@ -69,15 +69,23 @@ three-items a b c =
     append-assoc a (32 ∷ (b ++ 32 ∷ (c ++ []))) (10 ∷ [])
     ∙ ap (λ (l : List ℕ). a ++ (32 ∷ l)) (append-assoc b (32 ∷ (c ++ [])) (10 ∷ []) ∙ ap (λ (l : List ℕ). b ++ (32 ∷ (l ++ 10 ∷ []))) (append-nil c))
 
-pub refused-is : (r : ℕ) → refusedLine r ≡ refusedWord ++ tailText r
-unfolding refusedLine
-refused-is r = two-items refusedWord (decimal r)
+pub numbered-is : (w : List ℕ) (v : ℕ) → numbered w v ≡ w ++ tailText v
+unfolding numbered
+numbered-is w v = two-items w (decimal v)
+
+pub numbered-room : (w : List ℕ) (v : ℕ) (xs : List ℕ) → length (numbered w v) ≤ length xs → length (w ++ tailText v) ≤ length xs
+numbered-room w v xs h = rw (← numbered-is w v) h
+
+pub numbered-wrote : (w : List ℕ) (v : ℕ) (xs : List ℕ) (k : ℕ) (ys : List ℕ) → Wrote (w ++ tailText v) xs k ys → Wrote (numbered w v) xs k ys
+numbered-wrote w v xs k ys h = rw (numbered-is w v) h
 
 pub refused-room : (r : ℕ) (xs : List ℕ) → length (refusedLine r) ≤ length xs → length (refusedWord ++ tailText r) ≤ length xs
-refused-room r xs h = rw (← refused-is r) h
+unfolding refusedLine
+refused-room r xs h = numbered-room refusedWord r xs h
 
 pub refused-wrote : (r : ℕ) (xs : List ℕ) (k : ℕ) (ys : List ℕ) → Wrote (refusedWord ++ tailText r) xs k ys → Wrote (refusedLine r) xs k ys
-refused-wrote r xs k ys w = rw (refused-is r) w
+unfolding refusedLine
+refused-wrote r xs k ys w = numbered-wrote refusedWord r xs k ys w
 
 pub last-is : (o : Outcome) (m v : ℕ) → lastLine o m v ≡ outcomeWord o ++ bothText m v
 unfolding lastLine
@@ -115,7 +123,7 @@ line-most b (i ∷ is) f =
     let e : (b + 1) * suc (length is) ≡ (b + 1) * length is + (b + 1) = omega arith in
     omega (arith, length-append (i ++ led 32 is) (10 ∷ []), length-append i (led 32 is))
 
-word-most : (o : Outcome) → length (outcomeWord o) ≤ 20
+pub word-most : (o : Outcome) → length (outcomeWord o) ≤ 20
 unfolding outcomeWord refusedWord
 word-most ended.Complete = omega arith
 word-most ended.Full = omega arith
@@ -139,14 +147,18 @@ last-most o m v h k = line-most 20 (outcomeWord o ∷ decimal m ∷ decimal v �
     each i (inr (inr (inl e))) = rw e (number-most v k)
     each i (inr (inr (inr x))) = absurd x
 
+pub numbered-most : (w : List ℕ) (v : ℕ) → length w ≤ 20 → v < 2 ^ 64 → length (numbered w v) ≤ 64
+unfolding numbered
+numbered-most w v l h = let m = line-most 20 (w ∷ decimal v ∷ []) each in omega arith
+  where
+    each : Each (λ i. length i ≤ 20) (w ∷ decimal v ∷ [])
+    each i (inl e) = rw e l
+    each i (inr (inl e)) = rw e (number-most v h)
+    each i (inr (inr x)) = absurd x
+
 pub refused-most : (r : ℕ) → r < 2 ^ 64 → length (refusedLine r) ≤ 64
 unfolding refusedLine
-refused-most r h = let l = line-most 20 (refusedWord ∷ decimal r ∷ []) each in omega arith
-  where
-    each : Each (λ i. length i ≤ 20) (refusedWord ∷ decimal r ∷ [])
-    each i (inl e) = rw e refused-word-most
-    each i (inr (inl e)) = rw e (number-most r h)
-    each i (inr (inr x)) = absurd x
+refused-most r h = numbered-most refusedWord r refused-word-most h
 
 -- ---- the line of a model
 pub value-small : (w i : ℕ) → valueIn w i < 4
@@ -172,15 +184,19 @@ module _ (vs : List ℕ) (w n : ℕ) (xs : List ℕ) (e : vs ≡ clauseValues 12
   pub model-wrote : (r : ℕ) (ys : List ℕ) → Wrote (valuesLine (firstOf n vs)) xs r ys → Wrote (valuesLine (wordValues n w)) xs r ys
   model-wrote r ys v = rw (← word-line w n) (clause-wrote (clauseOf w 0 0) vs n xs r ys e h v)
 
+-- a line of values of one digit
+pub digits-most : (f : ℕ → ℕ) (n : ℕ) → ((i : ℕ) → f i < 10) → n ≤ 12 → length (valuesLine (tabulate f n)) ≤ 25
+unfolding valuesLine tabulate
+digits-most f n d h =
+    let e : map decimal (upFrom f n 0) ≡ upFrom (λ j. decimal (f j)) n 0 = map-upFrom decimal f n 0 in
+    let l = line-most 1 (upFrom (λ j. decimal (f j)) n 0) (λ i m.
+    let r = upFrom-in (λ j. decimal (f j)) n 0 i m in
+    rw (r .3, decimal-one (f (r .0)) (d (r .0))) (omega arith)) in
+    rw e (omega (arith, length-tabulate (λ j. decimal (f j)) n))
+
 model-most : (w n : ℕ) → n ≤ 12 → length (valuesLine (wordValues n w)) ≤ 25
-unfolding valuesLine wordValues tabulate
-model-most w n h =
-    let e : map decimal (upFrom (valueIn w) n 0) ≡ upFrom (λ j. decimal (valueIn w j)) n 0 = map-upFrom decimal (valueIn w) n 0 in
-    let l = line-most 1 (upFrom (λ j. decimal (valueIn w j)) n 0) (λ i m.
-    let r = upFrom-in (λ j. decimal (valueIn w j)) n 0 i m in
-    let q = decimal-one (valueIn w (r .0)) (omega (arith, value-small w (r .0))) in
-    rw (r .3, q) (omega arith)) in
-    rw e (omega (arith, length-tabulate (λ j. decimal (valueIn w j)) n))
+unfolding wordValues
+model-most w n h = digits-most (valueIn w) n (λ i. omega (arith, value-small w i)) h
 
 pub models-most : (n : ℕ) (ws : List ℕ) → n ≤ 12 → length (modelLines n ws) ≤ 25 * length ws
 unfolding modelLines flatMap
@@ -255,11 +271,11 @@ module _ (ms : List ℕ) (m n : ℕ) where
     list-done at out k s h = put-done xs linesText at out (put-as xs linesText at out _ _ (s .put) (lines-none k h (s .held)))
 
 -- ---- the names line and the lines of the models
-name-most : (xs : List ℕ) (i : ℕ) → length (nameAt xs i) ≤ 8
+pub name-most : (xs : List ℕ) (i : ℕ) → length (nameAt xs i) ≤ 8
 unfolding nameAt place
 name-most xs i = omega (arith, length-take (index 0 (take 8 (drop (8 * i) xs))) (take 8 (drop (8 * i) xs)), length-take 8 (drop (8 * i) xs))
 
-names-most : (xs : List ℕ) (n : ℕ) → n ≤ 12 → length (namesLine (tabulate (nameAt xs) n)) ≤ 109
+pub names-most : (xs : List ℕ) (n : ℕ) → n ≤ 12 → length (namesLine (tabulate (nameAt xs) n)) ≤ 109
 unfolding namesLine tabulate
 names-most xs n h =
     let l = line-most 8 (upFrom (nameAt xs) n 0) (λ i m. let r = upFrom-in (nameAt xs) n 0 i m in rw (r .3) (name-most xs (r .0))) in

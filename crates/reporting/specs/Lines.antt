@@ -36,9 +36,13 @@ countsText m v = decimal m ++ tailText v
 abbrev pub bothText : ℕ → ℕ → List ℕ
 bothText m v = byte 32 ++ countsText m v
 
+-- a line of a word and a number
+unfoldable pub numbered : List ℕ → ℕ → List ℕ
+numbered w v = lineOf (w ∷ decimal v ∷ [])
+
 -- "If refused it prints only one such line, as "refused 7"."
 unfoldable pub refusedLine : ℕ → List ℕ
-refusedLine r = lineOf (refusedWord ∷ decimal r ∷ [])
+refusedLine r = numbered refusedWord r
 
 -- "a line of values 0 to 3 for each model"
 unfoldable pub modelLines : ℕ → List ℕ → List ℕ

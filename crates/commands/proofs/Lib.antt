@@ -1,0 +1,3 @@
+-- The laws of what each word prints.
+pub mod Laws
+pub mod Rules

@@ -1,0 +1,370 @@
+// A call for each word of the command line: it reads the book, and puts its whole output at the front of a lent slice.
+ghost use mathlib.Core.Path.{_≡_};
+ghost use mathlib.Core.Bool.{true};
+ghost use mathlib.Core.List.{_++_};
+ghost use Prim.Native.Nat.{_≤_, min};
+ghost use lib.ListN.{length, take};
+ghost use Rattle.sets.specs.Lists.{tabulate};
+ghost use Rattle.lists.specs.Bytes.{Wrote};
+ghost use Rattle.program.specs.Names.{nameAt};
+ghost use Rattle.program.specs.Valid.{valid};
+ghost use Rattle.text.specs.Lines.{namesLine};
+ghost use Rattle.text.specs.Render.{render};
+ghost use Rattle.search.specs.Answer.{refusedBy};
+ghost use Rattle.reporting.specs.Lines.{outcomeWord, numbered, modelLines};
+ghost use Rattle.reporting.specs.Printing.{mostBytes, Prints};
+ghost use Rattle.reporting.specs.Report.{searchText};
+ghost use Rattle.commands.specs.Commands.{checkedLine, checkText, checkOutput, places, searchOutput, room, fixpointText, fixpointOutput, bitAt, bitsLine, fourLines, oneIf, flagAt, flagsLine, summarizedText, summaryText, summaryOutput, writeOutput};
+use program::Program;
+use reporting::MOST_BYTES;
+use reporting::NODE_LIMIT;
+use search::Outcome;
+use stable::Checked;
+use text::Verdict;
+use text::Written;
+
+// The most places of a list, and the most words of a working slice.
+pub const MOST_PLACES: usize = 4096;
+
+pub const MOST_WORDS: usize = 65536;
+
+fn least(a: usize, b: usize) -> usize
+    ensures { λ r. ⌜ r ≡ min a b ⌝ }
+{
+    if a < b { a } else { b }
+}
+
+// A line of a word and a number.
+fn put_numbered(out: &mut [u8], word: &[u8], v: u64) -> usize
+    requires { ⌜ length (numbered (now word) v) ≤ length (now out) ⌝ }
+    ensures { λ r. ⌜ Wrote (numbered (now (word .entry)) v) (now (out .entry)) r (now (out .exit)) ⌝ }
+{
+    let a = lists::put_bytes(out, word);
+    let b = reporting::put_tail(&mut out[a..], v);
+    a + b
+}
+
+// ---- check
+// The line of the check's answer, for which 64 bytes are room enough.
+fn put_checked(out: &mut [u8], answer: Checked) -> usize
+    requires { ⌜ 64 ≤ length (now out) ⌝ }
+    ensures { λ r. ⌜ Wrote (checkedLine answer) (now (out .entry)) r (now (out .exit)) ⌝ }
+{
+    match answer {
+        Checked::Refused(number) => reporting::put_refused_line(out, number as u64),
+        Checked::Violated(k) => put_numbered(out, b"violated", k as u64),
+        Checked::Smaller(j) => put_numbered(out, b"smaller", j as u64),
+        Checked::Stable => lists::put_bytes(out, b"stable\n"),
+    }
+}
+
+fn put_check(p: Program, word: u32, out: &mut [u8]) -> usize
+    requires { ⌜ 64 ≤ length (now out) ⌝ }
+    ensures { λ r. ⌜ Wrote (checkText word p) (now (out .entry)) r (now (out .exit)) ⌝ }
+{
+    let answer = stable::check(p, word);
+    put_checked(out, answer)
+}
+
+// `check WORD`: what the check says of the word, or the refusal.
+pub fn check(text: &[u8], word: u32, out: &mut [u8]) -> usize
+    ensures { λ r. ⌜ Prints (checkOutput word (now (text .entry))) (now (out .entry)) r (now (out .exit)) ⌝ }
+{
+    if out.len() < MOST_BYTES {
+        return 0;
+    }
+    let read = reader::read_program(text);
+    let verdict = read.verdict;
+    let program = read.program;
+    match verdict {
+        Verdict::Accepted => put_check(program, word, out),
+        Verdict::Refused(number) => reporting::put_refused_line(out, number as u64),
+    }
+}
+
+// ---- search
+fn put_search(p: Program, node_limit: u64, k: usize, out: &mut [u8]) -> usize
+    requires { ⌜ (valid p ≡ true) × (mostBytes ≤ length (now out)) ⌝ }
+    ensures { λ r. ⌜ Wrote (searchText «node_limit» (places k) p) (now (out .entry)) r (now (out .exit)) ⌝ }
+{
+    let n = least(k, MOST_PLACES);
+    let mut models = [0u32; 4096];
+    reporting::put_search(p, node_limit, &mut models[..n], out)
+}
+
+// `search LIMIT PLACES`: the models that a search finds, its outcome and its counts, or the refusal.
+pub fn search(text: &[u8], node_limit: u64, k: usize, out: &mut [u8]) -> usize
+    ensures { λ r. ⌜ Prints (searchOutput «node_limit» k (now (text .entry))) (now (out .entry)) r (now (out .exit)) ⌝ }
+{
+    if out.len() < MOST_BYTES {
+        return 0;
+    }
+    let read = reader::read_program(text);
+    let verdict = read.verdict;
+    let program = read.program;
+    match verdict {
+        Verdict::Accepted => put_search(program, node_limit, k, out),
+        Verdict::Refused(number) => reporting::put_refused_line(out, number as u64),
+    }
+}
+
+// ---- fixpoint
+// The number of an outcome's refusal, 0 for none.
+fn refused_by(outcome: Outcome) -> u8
+    ensures { λ r. ⌜ r ≡ refusedBy outcome ⌝ }
+{
+    match outcome {
+        Outcome::Complete => 0,
+        Outcome::Full => 0,
+        Outcome::Spent => 0,
+        Outcome::Refused(number) => number,
+    }
+}
+
+// A line of an outcome and a number.
+fn put_outcome(out: &mut [u8], outcome: Outcome, m: u64) -> usize
+    requires { ⌜ length (numbered (outcomeWord outcome) m) ≤ length (now out) ⌝ }
+    ensures { λ r. ⌜ Wrote (numbered (outcomeWord outcome) m) (now (out .entry)) r (now (out .exit)) ⌝ }
+{
+    let a = reporting::put_word(out, outcome);
+    let b = reporting::put_tail(&mut out[a..], m);
+    a + b
+}
+
+// The names line, the lines of the models and the last line.
+fn put_listed(
+    out: &mut [u8],
+    names: &[u8; 96],
+    n: usize,
+    models: &[u32],
+    m: usize,
+    outcome: Outcome,
+) -> usize
+    requires { ⌜ (1 ≤ n) × (n ≤ 12) × (m ≤ length (now models)) × (length ((namesLine (tabulate (nameAt (now names)) n) ++ modelLines n (take m (now models))) ++ numbered (outcomeWord outcome) m) ≤ length (now out)) ⌝ }
+    ensures { λ r. ⌜ Wrote ((namesLine (tabulate (nameAt (now (names .entry))) n) ++ modelLines n (take m (now (models .entry)))) ++ numbered (outcomeWord outcome) m) (now (out .entry)) r (now (out .exit)) ⌝ }
+{
+    let a = reporting::put_listing(out, names, n, models, m);
+    let b = put_outcome(&mut out[a..], outcome, m as u64);
+    a + b
+}
+
+// A fixpoint of `p` in the lent slices, printed.
+fn put_fixed(
+    p: Program,
+    models: &mut [u32],
+    work: &mut [u64],
+    more_work: &mut [u64],
+    out: &mut [u8],
+) -> usize
+    requires { ⌜ (valid p ≡ true) × (length (now models) ≤ 4096) × (mostBytes ≤ length (now out)) ⌝ }
+    ensures { λ r. ⌜ Wrote (fixpointText (now (models .entry)) (now (work .entry)) (now («more_work» .entry)) p) (now (out .entry)) r (now (out .exit)) ⌝ }
+{
+    let a = fixpoint::fixpoint(p, models, work, more_work);
+    let outcome = a.outcome;
+    let number = refused_by(outcome);
+    if number != 0 {
+        return reporting::put_refused_line(out, number as u64);
+    }
+    let n = p.atom_count;
+    let names = p.atom_names;
+    let m = a.written;
+    put_listed(out, &names, n, models, m, outcome)
+}
+
+fn put_fixpoint(p: Program, k: usize, capacity: usize, out: &mut [u8]) -> usize
+    requires { ⌜ (valid p ≡ true) × (mostBytes ≤ length (now out)) ⌝ }
+    ensures { λ r. ⌜ Wrote (fixpointText (places k) (room capacity) (room capacity) p) (now (out .entry)) r (now (out .exit)) ⌝ }
+{
+    let n = least(k, MOST_PLACES);
+    let c = least(capacity, MOST_WORDS);
+    let mut models = [0u32; 4096];
+    let mut work = [0u64; 65536];
+    let mut more_work = [0u64; 65536];
+    put_fixed(
+        p,
+        &mut models[..n],
+        &mut work[..c],
+        &mut more_work[..c],
+        out,
+    )
+}
+
+// `fixpoint PLACES CAPACITY`: the models that the fixpoint finds, its outcome and its count, or the refusal.
+pub fn fixpoint(text: &[u8], k: usize, capacity: usize, out: &mut [u8]) -> usize
+    ensures { λ r. ⌜ Prints (fixpointOutput k capacity (now (text .entry))) (now (out .entry)) r (now (out .exit)) ⌝ }
+{
+    if out.len() < MOST_BYTES {
+        return 0;
+    }
+    let read = reader::read_program(text);
+    let verdict = read.verdict;
+    let program = read.program;
+    match verdict {
+        Verdict::Accepted => put_fixpoint(program, k, capacity, out),
+        Verdict::Refused(number) => reporting::put_refused_line(out, number as u64),
+    }
+}
+
+// ---- summary
+// The bits that count `k`.
+fn bits_of(shown: &[u8; 12], k: u8) -> [u8; 12]
+    requires { ⌜ 1 ≤ k ⌝ }
+    ensures { λ r. ⌜ r ≡ tabulate (bitAt k (now (shown .entry))) 12 ⌝ }
+{
+    let mut out = [0u8; 12];
+    let mut i: usize = 0;
+    while i < 12 {
+        out[i] = shown[i] / k % 2;
+        i += 1;
+    }
+    out
+}
+
+fn put_bits(out: &mut [u8], shown: &[u8; 12], k: u8, n: usize) -> usize
+    requires { ⌜ (1 ≤ k) × (1 ≤ n) × (n ≤ 12) × (length (bitsLine k (now shown) n) ≤ length (now out)) ⌝ }
+    ensures { λ r. ⌜ Wrote (bitsLine k (now (shown .entry)) n) (now (out .entry)) r (now (out .exit)) ⌝ }
+{
+    let bits = bits_of(shown, k);
+    writer::put_values_line(out, &bits, n)
+}
+
+fn put_two(out: &mut [u8], shown: &[u8; 12], j: u8, k: u8, n: usize) -> usize
+    requires { ⌜ (1 ≤ j) × (1 ≤ k) × (1 ≤ n) × (n ≤ 12) × (length (bitsLine j (now shown) n ++ bitsLine k (now shown) n) ≤ length (now out)) ⌝ }
+    ensures { λ r. ⌜ Wrote (bitsLine j (now (shown .entry)) n ++ bitsLine k (now (shown .entry)) n) (now (out .entry)) r (now (out .exit)) ⌝ }
+{
+    let a = put_bits(out, shown, j, n);
+    let b = put_bits(&mut out[a..], shown, k, n);
+    a + b
+}
+
+fn put_four(out: &mut [u8], shown: &[u8; 12], n: usize) -> usize
+    requires { ⌜ (1 ≤ n) × (n ≤ 12) × (length (fourLines (now shown) n) ≤ length (now out)) ⌝ }
+    ensures { λ r. ⌜ Wrote (fourLines (now (shown .entry)) n) (now (out .entry)) r (now (out .exit)) ⌝ }
+{
+    let a = put_two(out, shown, 1, 2, n);
+    let b = put_two(&mut out[a..], shown, 4, 8, n);
+    a + b
+}
+
+fn one_if(b: bool) -> u8
+    ensures { λ r. ⌜ r ≡ oneIf b ⌝ }
+{
+    if b { 1 } else { 0 }
+}
+
+fn ones_of(flags: &[bool; 12]) -> [u8; 12]
+    ensures { λ r. ⌜ r ≡ tabulate (flagAt (now (flags .entry))) 12 ⌝ }
+{
+    let mut out = [0u8; 12];
+    let mut i: usize = 0;
+    while i < 12 {
+        out[i] = one_if(flags[i]);
+        i += 1;
+    }
+    out
+}
+
+fn put_flags(out: &mut [u8], flags: &[bool; 12], n: usize) -> usize
+    requires { ⌜ (1 ≤ n) × (n ≤ 12) × (length (flagsLine (now flags) n) ≤ length (now out)) ⌝ }
+    ensures { λ r. ⌜ Wrote (flagsLine (now (flags .entry)) n) (now (out .entry)) r (now (out .exit)) ⌝ }
+{
+    let ones = ones_of(flags);
+    writer::put_values_line(out, &ones, n)
+}
+
+// The lines behind the names line.
+fn put_shown(out: &mut [u8], shown: &[u8; 12], flags: &[bool; 12], n: usize) -> usize
+    requires { ⌜ (1 ≤ n) × (n ≤ 12) × (length (fourLines (now shown) n ++ flagsLine (now flags) n) ≤ length (now out)) ⌝ }
+    ensures { λ r. ⌜ Wrote (fourLines (now (shown .entry)) n ++ flagsLine (now (flags .entry)) n) (now (out .entry)) r (now (out .exit)) ⌝ }
+{
+    let a = put_four(out, shown, n);
+    let b = put_flags(&mut out[a..], flags, n);
+    a + b
+}
+
+fn put_lines(
+    out: &mut [u8],
+    names: &[u8; 96],
+    n: usize,
+    shown: &[u8; 12],
+    flags: &[bool; 12],
+) -> usize
+    requires { ⌜ (1 ≤ n) × (n ≤ 12) × (length (namesLine (tabulate (nameAt (now names)) n) ++ (fourLines (now shown) n ++ flagsLine (now flags) n)) ≤ length (now out)) ⌝ }
+    ensures { λ r. ⌜ Wrote (namesLine (tabulate (nameAt (now (names .entry))) n) ++ (fourLines (now (shown .entry)) n ++ flagsLine (now (flags .entry)) n)) (now (out .entry)) r (now (out .exit)) ⌝ }
+{
+    let a = writer::put_names_line(out, names, n);
+    let b = put_shown(&mut out[a..], shown, flags, n);
+    a + b
+}
+
+// The summary of the words, printed.
+fn put_summarized(p: Program, words: &[u32], out: &mut [u8]) -> usize
+    requires { ⌜ (valid p ≡ true) × (mostBytes ≤ length (now out)) ⌝ }
+    ensures { λ r. ⌜ Wrote (summarizedText (now (words .entry)) p) (now (out .entry)) r (now (out .exit)) ⌝ }
+{
+    let s = summary::summarize(p, words);
+    let n = p.atom_count;
+    let names = p.atom_names;
+    let shown = s.occurring;
+    let flags = s.settled;
+    let verdict = s.verdict;
+    match verdict {
+        Verdict::Accepted => put_lines(out, &names, n, &shown, &flags),
+        Verdict::Refused(number) => reporting::put_refused_line(out, number as u64),
+    }
+}
+
+fn put_summary(p: Program, out: &mut [u8]) -> usize
+    requires { ⌜ (valid p ≡ true) × (mostBytes ≤ length (now out)) ⌝ }
+    ensures { λ r. ⌜ Wrote (summaryText p) (now (out .entry)) r (now (out .exit)) ⌝ }
+{
+    let mut models = [0u32; 4096];
+    let a = search::search(p, NODE_LIMIT, &mut models);
+    let m = a.written;
+    put_summarized(p, &models[..m], out)
+}
+
+// `summary`: which values each name takes in the models that the report lists, and what is settled, or the refusal.
+pub fn summary(text: &[u8], out: &mut [u8]) -> usize
+    ensures { λ r. ⌜ Prints (summaryOutput (now (text .entry))) (now (out .entry)) r (now (out .exit)) ⌝ }
+{
+    if out.len() < MOST_BYTES {
+        return 0;
+    }
+    let read = reader::read_program(text);
+    let verdict = read.verdict;
+    let program = read.program;
+    match verdict {
+        Verdict::Accepted => put_summary(program, out),
+        Verdict::Refused(number) => reporting::put_refused_line(out, number as u64),
+    }
+}
+
+// ---- write
+// The writer's text; with room for it, the writer takes every table that was read.
+fn put_written(p: Program, out: &mut [u8]) -> usize
+    requires { ⌜ (valid p ≡ true) × (length (render p) ≤ length (now out)) ⌝ }
+    ensures { λ r. ⌜ Wrote (render p) (now (out .entry)) r (now (out .exit)) ⌝ }
+{
+    let written = writer::write_program(p, out);
+    match written {
+        Written::Length(n) => n,
+        Written::Refused(_) => 0,
+    }
+}
+
+// `write`: the book written back, or the refusal.
+pub fn write(text: &[u8], out: &mut [u8]) -> usize
+    ensures { λ r. ⌜ Prints (writeOutput (now (text .entry))) (now (out .entry)) r (now (out .exit)) ⌝ }
+{
+    if out.len() < MOST_BYTES {
+        return 0;
+    }
+    let read = reader::read_program(text);
+    let verdict = read.verdict;
+    let program = read.program;
+    match verdict {
+        Verdict::Accepted => put_written(program, out),
+        Verdict::Refused(number) => reporting::put_refused_line(out, number as u64),
+    }
+}
