@@ -2,24 +2,20 @@
 use mathlib.Core.Path.{_≡_, refl, sym, ap, _∙_, subst}
 use mathlib.Core.Bool.{Bool, true, false, cond}
 use mathlib.Core.Logic.{⊎-elim}
-use mathlib.Core.List.{List, [], _∷_, _++_}
-use Prim.Native.Nat.{ℕ, zero, suc, _+_, _-_, _/_, _%_, _^_, _≤_, _<_, min}
+use mathlib.Core.List.{List, _∷_, _++_}
+use Prim.Native.Nat.{ℕ, zero, suc, _+_, _-_, _≤_, min}
 use native.Mathlib.Omega.{arith}
-use lib.Dec.{eqb, leb, ltb}
-use lib.ListN.{length, getD, set, take, drop, replicate, length-append, length-take, length-drop, length-replicate}
+use lib.Dec.{eqb, ltb}
+use lib.ListN.{length, take, drop, replicate, length-append, length-take, length-drop, length-replicate}
 use lib.Seq.{length-take-le}
 use borrow.Author.Tests.{eqb-true, le-ltb, ltb-false}
-use Rattle.sets.specs.Lists.{upFrom, tabulate}
 use Rattle.sets.proofs.Tests.{dec, both-false, clash}
-use Rattle.sets.proofs.Lists.{upFrom-ext, getD-tabulate}
-use Rattle.lists.specs.Bytes.{over, Wrote}
-use Rattle.lists.proofs.Filling.{Filled, fill-more}
+use Rattle.lists.specs.Bytes.{Wrote}
 use Rattle.program.specs.declared.Program.{Program}
-use Rattle.program.specs.Names.{nameAt, namesOf}
+use Rattle.program.specs.Names.{namesOf}
 use Rattle.program.specs.Refusals.{lowest}
 use Rattle.program.specs.Valid.{valid}
 use Rattle.program.proofs.Validity.{valid-names}
-use Rattle.text.specs.Lines.{lineOf, namesLine, valuesLine}
 use Rattle.text.specs.Refusals.{wrongSize, refusal}
 use Rattle.text.specs.Render.{render}
 use Rattle.text.specs.Reading as reading
@@ -29,11 +25,9 @@ use Rattle.text.specs.declared.Verdict.the-variants as verdict
 use Rattle.text.specs.declared.Written.{Written}
 use Rattle.text.specs.declared.Written.the-variants as written
 use Rattle.text.proofs.RoundTrip.{refused-by, written-back}
-use Rattle.writer.specs.Lines.{firstOf}
 use Rattle.stable.specs.declared.Checked.{Checked}
 use Rattle.stable.specs.Check.{Checks}
 use Rattle.search.specs.declared.Outcome.{Outcome}
-use Rattle.search.specs.declared.Outcome.the-variants as ended
 use Rattle.search.specs.declared.SearchAnswer.{SearchAnswer}
 use Rattle.search.specs.Answer.{listed, refusedBy, Searches}
 use Rattle.fixpoint.specs.declared.FixpointAnswer.{FixpointAnswer}
@@ -43,12 +37,12 @@ use Rattle.fixpoint.specs.Answer.{Fixes, roomOf, found}
 use Rattle.summary.specs.declared.Summary.{Summary}
 use Rattle.summary.specs.Summary.{summaryOf, refusedSummary, summaryWith}
 use Rattle.summary.specs.Summary as refusing
-use Rattle.reporting.specs.Lines.{outcomeWord, numbered, refusedLine, listing}
+use Rattle.reporting.specs.Lines.{outcomeWord, numbered, refusedLine}
 use Rattle.reporting.specs.Printing.{mostBytes, unlessRefused}
 use Rattle.reporting.specs.Report.{allowance, lent, searchText}
-use Rattle.reporting.proofs.Texts.{word-most, numbered-most, digits-most, names-most, shown, shown-most, shown-is}
-use Rattle.reporting.proofs.Searched.{listed-here}
-use Rattle.commands.specs.Commands.{checkedLine, checkText, places, room, fixpointText, bitAt, bitsLine, fourLines, oneIf, flagAt, flagsLine, summaryLines, summarizedText, summaryText}
+use Rattle.reporting.proofs.Texts.{word-most, numbered-most, shown, shown-most, shown-is}
+use Rattle.showing.proofs.Laws.{linesText}
+use Rattle.commands.specs.Commands.{checkedLine, checkText, places, room, fixpointText, summaryLines, summarizedText, summaryText}
 
 -- ---- a list of zeros, cut
 abbrev pub zeros : ℕ → List ℕ
@@ -146,77 +140,6 @@ module _ (p : Program) (l w v : List ℕ) (a : FixpointAnswer) (ms w′ v′ : L
     fixed-refused f h = rw (← s .says) (rw (← e) (refused n _ xs r ys f h))
 
 -- ---- the summary
--- the places of an array, one by one
-pub bits-more : (k : ℕ) (shown : List ℕ) (i : ℕ) (out : List ℕ) → Filled (bitAt k shown) 0 12 i out → i < 12 → Filled (bitAt k shown) 0 12 (i + 1) (set out i (getD shown i 0 / k % 2))
-unfolding bitAt
-bits-more k shown i out s h = fill-more (bitAt k shown) 0 12 i _ out s h refl
-
-pub ones-more : (flags : List Bool) (i v : ℕ) (out : List ℕ) → Filled (flagAt flags) 0 12 i out → i < 12 → v ≡ oneIf (getD flags i false) → Filled (flagAt flags) 0 12 (i + 1) (set out i v)
-unfolding flagAt
-ones-more flags i v out s h e = fill-more (flagAt flags) 0 12 i v out s h e
-
--- the line of the first values of an array that was filled
-first-line : (f : ℕ → ℕ) (vs : List ℕ) (n : ℕ) → vs ≡ tabulate f 12 → n ≤ 12 → valuesLine (firstOf n vs) ≡ valuesLine (tabulate f n)
-unfolding firstOf tabulate
-first-line f vs n e h =
-    ap (λ (l : List ℕ). valuesLine (firstOf n l)) e
-    ∙ ap valuesLine (upFrom-ext (λ j. getD (tabulate f 12) j 0) f n 0 (λ j l. getD-tabulate f 12 j 0 (omega arith)))
-
-module _ (f : ℕ → ℕ) (vs : List ℕ) (n : ℕ) (e : vs ≡ tabulate f 12) (h : n ≤ 12) (xs : List ℕ) where
-  line-room : length (valuesLine (tabulate f n)) ≤ length xs → length (valuesLine (firstOf n vs)) ≤ length xs
-  line-room l = rw (first-line f vs n e h) l
-
-  line-wrote : (r : ℕ) (ys : List ℕ) → Wrote (valuesLine (firstOf n vs)) xs r ys → Wrote (valuesLine (tabulate f n)) xs r ys
-  line-wrote r ys w = rw (← first-line f vs n e h) w
-
-pub bits-room : (k : ℕ) (shown vs : List ℕ) (n : ℕ) (xs : List ℕ) → vs ≡ tabulate (bitAt k shown) 12 → n ≤ 12 → length (bitsLine k shown n) ≤ length xs → length (valuesLine (firstOf n vs)) ≤ length xs
-unfolding bitsLine
-bits-room k shown vs n xs e h l = line-room (bitAt k shown) vs n e h xs l
-
-pub bits-wrote : (k : ℕ) (shown vs : List ℕ) (n : ℕ) (xs : List ℕ) (r : ℕ) (ys : List ℕ) → vs ≡ tabulate (bitAt k shown) 12 → n ≤ 12 → Wrote (valuesLine (firstOf n vs)) xs r ys → Wrote (bitsLine k shown n) xs r ys
-unfolding bitsLine
-bits-wrote k shown vs n xs r ys e h w = line-wrote (bitAt k shown) vs n e h xs r ys w
-
-pub flags-room : (flags : List Bool) (vs : List ℕ) (n : ℕ) (xs : List ℕ) → vs ≡ tabulate (flagAt flags) 12 → n ≤ 12 → length (flagsLine flags n) ≤ length xs → length (valuesLine (firstOf n vs)) ≤ length xs
-unfolding flagsLine
-flags-room flags vs n xs e h l = line-room (flagAt flags) vs n e h xs l
-
-pub flags-wrote : (flags : List Bool) (vs : List ℕ) (n : ℕ) (xs : List ℕ) (r : ℕ) (ys : List ℕ) → vs ≡ tabulate (flagAt flags) 12 → n ≤ 12 → Wrote (valuesLine (firstOf n vs)) xs r ys → Wrote (flagsLine flags n) xs r ys
-unfolding flagsLine
-flags-wrote flags vs n xs r ys e h w = line-wrote (flagAt flags) vs n e h xs r ys w
-
-bits-most : (k : ℕ) (shown : List ℕ) (n : ℕ) → n ≤ 12 → length (bitsLine k shown n) ≤ 25
-unfolding bitsLine bitAt
-bits-most k shown n h = digits-most (bitAt k shown) n (λ i. omega arith) h
-
-flags-most : (flags : List Bool) (n : ℕ) → n ≤ 12 → length (flagsLine flags n) ≤ 25
-unfolding flagsLine flagAt
-flags-most flags n h = digits-most (flagAt flags) n (λ i. small (getD flags i false)) h
-  where
-    small : (b : Bool) → oneIf b < 10
-    small true = omega arith
-    small false = omega arith
-
-abbrev pub linesText : List ℕ → ℕ → List ℕ → List Bool → List ℕ
-linesText names n shown flags = namesLine (tabulate (nameAt names) n) ++ (fourLines shown n ++ flagsLine flags n)
-
-pub lines-room : (names : List ℕ) (n : ℕ) (shown : List ℕ) (flags : List Bool) (xs : List ℕ) → n ≤ 12 → mostBytes ≤ length xs → length (linesText names n shown flags) ≤ length xs
-lines-room names n shown flags xs h r =
-    omega (
-      arith,
-      length-append (namesLine (tabulate (nameAt names) n)) (fourLines shown n ++ flagsLine flags n),
-      length-append (fourLines shown n) (flagsLine flags n),
-      length-append (bitsLine 1 shown n ++ bitsLine 2 shown n) (bitsLine 4 shown n ++ bitsLine 8 shown n),
-      length-append (bitsLine 1 shown n) (bitsLine 2 shown n),
-      length-append (bitsLine 4 shown n) (bitsLine 8 shown n),
-      names-most names n h,
-      bits-most 1 shown n h,
-      bits-most 2 shown n h,
-      bits-most 4 shown n h,
-      bits-most 8 shown n h,
-      flags-most flags n h,
-    )
-
 module _ (p : Program) (words : List ℕ) (s : Summary) (e : s ≡ summaryOf p words) (xs : List ℕ) (r : ℕ) (ys : List ℕ) where
   pub lines-wrote : s .verdict ≡ verdict.Accepted → Wrote (linesText (p .«atom_names») (p .«atom_count») (s .occurring) (s .settled)) xs r ys → Wrote (summarizedText words p) xs r ys
   unfolding summarizedText summaryLines namesOf

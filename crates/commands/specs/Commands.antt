@@ -1,12 +1,10 @@
 -- What each word of the command line prints, as a definition of the book's bytes and of the numbers behind the word. Assumes nothing.
-use mathlib.Core.Bool.{Bool, true, false}
 use mathlib.Core.List.{List, [], _∷_, _++_}
-use Prim.Native.Nat.{ℕ, _/_, _%_, min}
-use lib.ListN.{getD, take, replicate}
-use Rattle.sets.specs.Lists.{tabulate}
+use Prim.Native.Nat.{ℕ, min}
+use lib.ListN.{take, replicate}
 use Rattle.program.specs.declared.Program.{Program}
 use Rattle.program.specs.Names.{namesOf}
-use Rattle.text.specs.Lines.{lineOf, namesLine, valuesLine}
+use Rattle.text.specs.Lines.{lineOf, namesLine}
 use Rattle.text.specs.Render.{render}
 use Rattle.text.specs.Reading as reading
 use Rattle.stable.specs.declared.Checked.{Checked}
@@ -21,6 +19,7 @@ use Rattle.summary.specs.Summary.{summaryOf}
 use Rattle.reporting.specs.Lines.{outcomeWord, numbered, refusedLine, listing}
 use Rattle.reporting.specs.Printing.{unlessRefused, printed}
 use Rattle.reporting.specs.Report.{allowance, lent, searchText}
+use Rattle.showing.specs.Showing.{fourLines, flagsLine}
 
 -- ---- check WORD: "`violated K`, `smaller J` or `stable`"
 -- the bytes of these words
@@ -68,27 +67,6 @@ unfoldable pub fixpointOutput : ℕ → ℕ → List ℕ → List ℕ
 fixpointOutput k c b = printed (fixpointText (places k) (room c) (room c)) b
 
 -- ---- summary: "the names line, four lines of 0 and 1 (which names take value 0, 1, 2, 3 in some model), a line of 0 and 1 (settled)"
--- 1 where the bit that counts k is set in the place i: the bit of the value v counts 2^v
-unfoldable pub bitAt : ℕ → List ℕ → ℕ → ℕ
-bitAt k shown i = getD shown i 0 / k % 2
-
-unfoldable pub bitsLine : ℕ → List ℕ → ℕ → List ℕ
-bitsLine k shown n = valuesLine (tabulate (bitAt k shown) n)
-
-abbrev pub fourLines : List ℕ → ℕ → List ℕ
-fourLines shown n = (bitsLine 1 shown n ++ bitsLine 2 shown n) ++ (bitsLine 4 shown n ++ bitsLine 8 shown n)
-
--- 1 where the place i holds true
-abbrev pub oneIf : Bool → ℕ
-oneIf true = 1
-oneIf false = 0
-
-unfoldable pub flagAt : List Bool → ℕ → ℕ
-flagAt flags i = oneIf (getD flags i false)
-
-unfoldable pub flagsLine : List Bool → ℕ → List ℕ
-flagsLine flags n = valuesLine (tabulate (flagAt flags) n)
-
 unfoldable pub summaryLines : Program → Summary → List ℕ
 summaryLines p s = namesLine (namesOf p) ++ (fourLines (s .occurring) (p .«atom_count») ++ flagsLine (s .settled) (p .«atom_count»))
 

@@ -4,7 +4,8 @@ use Rattle.program.proofs.Validity.{valid-names}
 use Rattle.search.specs.declared.Outcome.the-variants as ended
 use Rattle.stable.specs.declared.Checked.the-variants as found
 use Rattle.reporting.proofs.Texts.{refused-most}
-use Rattle.commands.proofs.Laws.{lines-room, lines-wrote, summary-refused}
+use Rattle.showing.proofs.Laws.{lines-room}
+use Rattle.commands.proofs.Laws.{lines-wrote, summary-refused}
 use Rattle.commands.proofs.Rules.{rules}
 use Rattle.commands.proofs.put_summarized.Statement.{statement}
 use Rattle.commands.proofs.put_summarized.Tie as tie

@@ -1,10 +1,10 @@
--- `commands::put_flags` meets its contract. Assumes nothing.
+-- `showing::put_flags` meets its contract. Assumes nothing.
 use Rattle.search.specs.declared.Outcome.the-variants as ended
 use Rattle.stable.specs.declared.Checked.the-variants as found
-use Rattle.commands.proofs.Laws.{flags-room, flags-wrote}
-use Rattle.commands.proofs.Rules.{rules}
-use Rattle.commands.proofs.put_flags.Statement.{statement}
-use Rattle.commands.proofs.put_flags.Tie as tie
+use Rattle.showing.proofs.Laws.{flags-room, flags-wrote}
+use Rattle.showing.proofs.Rules.{rules}
+use Rattle.showing.proofs.put_flags.Statement.{statement}
+use Rattle.showing.proofs.put_flags.Tie as tie
 
 put-values-line-requires : tie.Need-put-values-line-requires
 put-values-line-requires c κs = let s = c .before .before .before .before in

@@ -1,4 +1,4 @@
--- `commands::put_lines` meets its contract. Assumes nothing.
+-- `showing::put_lines` meets its contract. Assumes nothing.
 use mathlib.Core.List.{List, _++_}
 use Prim.Native.Nat.{ℕ}
 use native.Mathlib.Omega.{arith}
@@ -9,10 +9,10 @@ use Rattle.text.specs.Lines.{namesLine}
 use Rattle.search.specs.declared.Outcome.the-variants as ended
 use Rattle.stable.specs.declared.Checked.the-variants as found
 use Rattle.reporting.proofs.Texts.{first-room, second-room, shown}
-use Rattle.commands.specs.Commands.{fourLines, flagsLine}
-use Rattle.commands.proofs.Rules.{rules}
-use Rattle.commands.proofs.put_lines.Statement.{statement}
-use Rattle.commands.proofs.put_lines.Tie as tie
+use Rattle.showing.specs.Showing.{fourLines, flagsLine}
+use Rattle.showing.proofs.Rules.{rules}
+use Rattle.showing.proofs.put_lines.Statement.{statement}
+use Rattle.showing.proofs.put_lines.Tie as tie
 
 abbrev first : tie.Start → List ℕ
 first c = namesLine (tabulate (nameAt (c .args .names .now)) (c .args .n))

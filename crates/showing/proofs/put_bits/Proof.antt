@@ -1,11 +1,11 @@
--- `commands::put_bits` meets its contract. Assumes nothing.
+-- `showing::put_bits` meets its contract. Assumes nothing.
 use Rattle.search.specs.declared.Outcome.the-variants as ended
 use Rattle.stable.specs.declared.Checked.the-variants as found
 use Rattle.reporting.proofs.Texts.{shown}
-use Rattle.commands.proofs.Laws.{bits-room, bits-wrote}
-use Rattle.commands.proofs.Rules.{rules}
-use Rattle.commands.proofs.put_bits.Statement.{statement}
-use Rattle.commands.proofs.put_bits.Tie as tie
+use Rattle.showing.proofs.Laws.{bits-room, bits-wrote}
+use Rattle.showing.proofs.Rules.{rules}
+use Rattle.showing.proofs.put_bits.Statement.{statement}
+use Rattle.showing.proofs.put_bits.Tie as tie
 
 put-values-line-requires : tie.Need-put-values-line-requires
 put-values-line-requires c κs = let s = c .before .before .before .before in

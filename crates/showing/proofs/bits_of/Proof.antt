@@ -1,13 +1,13 @@
--- `commands::bits_of` meets its contract. Assumes nothing.
+-- `showing::bits_of` meets its contract. Assumes nothing.
 use Prim.Native.Nat.{_-_}
 use Rattle.lists.proofs.Filling.{Filled}
 use Rattle.search.specs.declared.Outcome.the-variants as ended
 use Rattle.stable.specs.declared.Checked.the-variants as found
 use Rattle.reporting.proofs.Texts.{shown}
-use Rattle.commands.specs.Commands.{bitAt}
-use Rattle.commands.proofs.Rules.{rules}
-use Rattle.commands.proofs.bits_of.Statement.{statement}
-use Rattle.commands.proofs.bits_of.Tie as tie
+use Rattle.showing.specs.Showing.{bitAt}
+use Rattle.showing.proofs.Rules.{rules}
+use Rattle.showing.proofs.bits_of.Statement.{statement}
+use Rattle.showing.proofs.bits_of.Tie as tie
 
 abbrev Inv-loop : tie.InvT-loop
 Inv-loop shown k out₀ i₀ out i = Filled (bitAt k shown) 0 12 i out

@@ -1,12 +1,12 @@
--- `commands::ones_of` meets its contract. Assumes nothing.
+-- `showing::ones_of` meets its contract. Assumes nothing.
 use Prim.Native.Nat.{_-_}
 use Rattle.lists.proofs.Filling.{Filled}
 use Rattle.search.specs.declared.Outcome.the-variants as ended
 use Rattle.stable.specs.declared.Checked.the-variants as found
-use Rattle.commands.specs.Commands.{flagAt}
-use Rattle.commands.proofs.Rules.{rules}
-use Rattle.commands.proofs.ones_of.Statement.{statement}
-use Rattle.commands.proofs.ones_of.Tie as tie
+use Rattle.showing.specs.Showing.{flagAt}
+use Rattle.showing.proofs.Rules.{rules}
+use Rattle.showing.proofs.ones_of.Statement.{statement}
+use Rattle.showing.proofs.ones_of.Tie as tie
 
 abbrev Inv-loop : tie.InvT-loop
 Inv-loop flags out₀ i₀ out i = Filled (flagAt flags) 0 12 i out

@@ -1,4 +1,4 @@
--- `commands::put_two` meets its contract. Assumes nothing.
+-- `showing::put_two` meets its contract. Assumes nothing.
 use mathlib.Core.List.{List}
 use Prim.Native.Nat.{ℕ}
 use native.Mathlib.Omega.{arith}
@@ -6,10 +6,10 @@ use lib.ListN.{length-append}
 use Rattle.search.specs.declared.Outcome.the-variants as ended
 use Rattle.stable.specs.declared.Checked.the-variants as found
 use Rattle.reporting.proofs.Texts.{first-room, second-room, shown}
-use Rattle.commands.specs.Commands.{bitsLine}
-use Rattle.commands.proofs.Rules.{rules}
-use Rattle.commands.proofs.put_two.Statement.{statement}
-use Rattle.commands.proofs.put_two.Tie as tie
+use Rattle.showing.specs.Showing.{bitsLine}
+use Rattle.showing.proofs.Rules.{rules}
+use Rattle.showing.proofs.put_two.Statement.{statement}
+use Rattle.showing.proofs.put_two.Tie as tie
 
 abbrev first : tie.Start → List ℕ
 first c = bitsLine (c .args .j) (c .args .shown .now) (c .args .n)
