@@ -42,7 +42,7 @@ use Rattle.reporting.specs.Printing.{mostBytes, unlessRefused}
 use Rattle.reporting.specs.Report.{allowance, lent, searchText}
 use Rattle.reporting.proofs.Texts.{word-most, numbered-most, shown, shown-most, shown-is}
 use Rattle.showing.proofs.Laws.{linesText}
-use Rattle.commands.specs.Commands.{checkedLine, checkText, places, room, fixpointText, summaryLines, summarizedText, summaryText}
+use Rattle.commands.specs.Commands.{checkedLine, checkText, lentList, workSlice, fixpointText, summaryLines, summarizedText, summaryText}
 
 -- ---- a list of zeros, cut
 abbrev pub zeros : ℕ → List ℕ
@@ -63,13 +63,13 @@ module _ (r k n : ℕ) (e : r ≡ min k n) where
   pub cut-short : length (take r (zeros n)) ≤ n
   cut-short = omega (arith, cut-long)
 
-pub search-cut : (A k r : ℕ) (p : Program) (xs : List ℕ) (m : ℕ) (ys : List ℕ) → r ≡ min k 4096 → Wrote (searchText A (take r (zeros 4096)) p) xs m ys → Wrote (searchText A (places k) p) xs m ys
+pub search-cut : (A k r : ℕ) (p : Program) (xs : List ℕ) (m : ℕ) (ys : List ℕ) → r ≡ min k 4096 → Wrote (searchText A (take r (zeros 4096)) p) xs m ys → Wrote (searchText A (lentList k) p) xs m ys
 search-cut A k r p xs m ys e w = subst (λ (l : List ℕ). Wrote (searchText A l p) xs m ys) (cut-zeros r k 4096 e) w
 
 pub fixpoint-cut : (k j r q : ℕ) (p : Program) (xs : List ℕ) (m : ℕ) (ys : List ℕ) → r ≡ min k 4096 → q ≡ min j 65536
-    → Wrote (fixpointText (take r (zeros 4096)) (take q (zeros 65536)) (take q (zeros 65536)) p) xs m ys → Wrote (fixpointText (places k) (room j) (room j) p) xs m ys
+    → Wrote (fixpointText (take r (zeros 4096)) (take q (zeros 65536)) (take q (zeros 65536)) p) xs m ys → Wrote (fixpointText (lentList k) (workSlice j) (workSlice j) p) xs m ys
 fixpoint-cut k j r q p xs m ys e f w =
-    subst (λ (l : List ℕ). Wrote (fixpointText l (room j) (room j) p) xs m ys) (cut-zeros r k 4096 e)
+    subst (λ (l : List ℕ). Wrote (fixpointText l (workSlice j) (workSlice j) p) xs m ys) (cut-zeros r k 4096 e)
     (subst (λ (l : List ℕ). Wrote (fixpointText (take r (zeros 4096)) l l p) xs m ys) (cut-zeros q j 65536 f) w)
 
 -- ---- a refusal, or the text

@@ -46,16 +46,16 @@ checkOutput w b = printed (checkText w) b
 
 -- ---- search LIMIT PLACES: "the names line, a line of values for each model, then outcome, models written, nodes visited"
 -- the list that is lent: "places to 4,096", and more count as 4,096
-abbrev pub places : ℕ → List ℕ
-places k = replicate (min k 4096) 0
+abbrev pub lentList : ℕ → List ℕ
+lentList places = replicate (min places 4096) 0
 
 unfoldable pub searchOutput : ℕ → ℕ → List ℕ → List ℕ
-searchOutput A k b = printed (searchText A (places k)) b
+searchOutput A places b = printed (searchText A (lentList places)) b
 
 -- ---- fixpoint PLACES CAPACITY: "the names line, model lines, then outcome and models written"
 -- each working slice: "capacity to 65,536 words", and more count as 65,536
-abbrev pub room : ℕ → List ℕ
-room k = replicate (min k 65536) 0
+abbrev pub workSlice : ℕ → List ℕ
+workSlice capacity = replicate (min capacity 65536) 0
 
 -- of a fixpoint with the lent list l and the working slices w and v
 unfoldable pub fixpointText : List ℕ → List ℕ → List ℕ → Program → List ℕ
@@ -64,7 +64,7 @@ fixpointText l w v p =
     unlessRefused (refusedBy (a .outcome)) (listing p (take (a .written) (fixed.exitOf p l w v)) ++ numbered (outcomeWord (a .outcome)) (a .written))
 
 unfoldable pub fixpointOutput : ℕ → ℕ → List ℕ → List ℕ
-fixpointOutput k c b = printed (fixpointText (places k) (room c) (room c)) b
+fixpointOutput places capacity b = printed (fixpointText (lentList places) (workSlice capacity) (workSlice capacity)) b
 
 -- ---- summary: "the names line, four lines of 0 and 1 (which names take value 0, 1, 2, 3 in some model), a line of 0 and 1 (settled)"
 unfoldable pub summaryLines : Program → Summary → List ℕ

@@ -14,7 +14,7 @@ ghost use Rattle.search.specs.Answer.{refusedBy};
 ghost use Rattle.reporting.specs.Lines.{outcomeWord, numbered, modelLines};
 ghost use Rattle.reporting.specs.Printing.{mostBytes, Prints};
 ghost use Rattle.reporting.specs.Report.{searchText};
-ghost use Rattle.commands.specs.Commands.{checkedLine, checkText, checkOutput, places, searchOutput, room, fixpointText, fixpointOutput, summarizedText, summaryText, summaryOutput, writeOutput};
+ghost use Rattle.commands.specs.Commands.{checkedLine, checkText, checkOutput, lentList, searchOutput, workSlice, fixpointText, fixpointOutput, summarizedText, summaryText, summaryOutput, writeOutput};
 use program::Program;
 use reporting::MOST_BYTES;
 use reporting::NODE_LIMIT;
@@ -83,18 +83,18 @@ pub fn check(text: &[u8], word: u32, out: &mut [u8]) -> usize
 }
 
 // ---- search
-fn put_search(p: Program, node_limit: u64, k: usize, out: &mut [u8]) -> usize
+fn put_search(p: Program, node_limit: u64, places: usize, out: &mut [u8]) -> usize
     requires { ⌜ (valid p ≡ true) × (mostBytes ≤ length (now out)) ⌝ }
-    ensures { λ r. ⌜ Wrote (searchText «node_limit» (places k) p) (now (out .entry)) r (now (out .exit)) ⌝ }
+    ensures { λ r. ⌜ Wrote (searchText «node_limit» (lentList places) p) (now (out .entry)) r (now (out .exit)) ⌝ }
 {
-    let n = least(k, MOST_PLACES);
+    let n = least(places, MOST_PLACES);
     let mut models = [0u32; 4096];
     reporting::put_search(p, node_limit, &mut models[..n], out)
 }
 
-// `search LIMIT PLACES`: the models that a search finds, its outcome and its counts, or the refusal.
-pub fn search(text: &[u8], node_limit: u64, k: usize, out: &mut [u8]) -> usize
-    ensures { λ r. ⌜ Prints (searchOutput «node_limit» k (now (text .entry))) (now (out .entry)) r (now (out .exit)) ⌝ }
+// `search LIMIT PLACES`, with more than `MOST_PLACES` as that many: the models that a search finds, its outcome and its counts, or the refusal.
+pub fn search(text: &[u8], node_limit: u64, places: usize, out: &mut [u8]) -> usize
+    ensures { λ r. ⌜ Prints (searchOutput «node_limit» places (now (text .entry))) (now (out .entry)) r (now (out .exit)) ⌝ }
 {
     if out.len() < MOST_BYTES {
         return 0;
@@ -103,7 +103,7 @@ pub fn search(text: &[u8], node_limit: u64, k: usize, out: &mut [u8]) -> usize
     let verdict = read.verdict;
     let program = read.program;
     match verdict {
-        Verdict::Accepted => put_search(program, node_limit, k, out),
+        Verdict::Accepted => put_search(program, node_limit, places, out),
         Verdict::Refused(number) => reporting::put_refused_line(out, number as u64),
     }
 }
@@ -171,11 +171,11 @@ fn put_fixed(
     put_listed(out, &names, n, models, m, outcome)
 }
 
-fn put_fixpoint(p: Program, k: usize, capacity: usize, out: &mut [u8]) -> usize
+fn put_fixpoint(p: Program, places: usize, capacity: usize, out: &mut [u8]) -> usize
     requires { ⌜ (valid p ≡ true) × (mostBytes ≤ length (now out)) ⌝ }
-    ensures { λ r. ⌜ Wrote (fixpointText (places k) (room capacity) (room capacity) p) (now (out .entry)) r (now (out .exit)) ⌝ }
+    ensures { λ r. ⌜ Wrote (fixpointText (lentList places) (workSlice capacity) (workSlice capacity) p) (now (out .entry)) r (now (out .exit)) ⌝ }
 {
-    let n = least(k, MOST_PLACES);
+    let n = least(places, MOST_PLACES);
     let c = least(capacity, MOST_WORDS);
     let mut models = [0u32; 4096];
     let mut work = [0u64; 65536];
@@ -189,9 +189,9 @@ fn put_fixpoint(p: Program, k: usize, capacity: usize, out: &mut [u8]) -> usize
     )
 }
 
-// `fixpoint PLACES CAPACITY`: the models that the fixpoint finds, its outcome and its count, or the refusal.
-pub fn fixpoint(text: &[u8], k: usize, capacity: usize, out: &mut [u8]) -> usize
-    ensures { λ r. ⌜ Prints (fixpointOutput k capacity (now (text .entry))) (now (out .entry)) r (now (out .exit)) ⌝ }
+// `fixpoint PLACES CAPACITY`, with more than `MOST_PLACES` and `MOST_WORDS` as that many: the models that the fixpoint finds, its outcome and its count, or the refusal.
+pub fn fixpoint(text: &[u8], places: usize, capacity: usize, out: &mut [u8]) -> usize
+    ensures { λ r. ⌜ Prints (fixpointOutput places capacity (now (text .entry))) (now (out .entry)) r (now (out .exit)) ⌝ }
 {
     if out.len() < MOST_BYTES {
         return 0;
@@ -200,7 +200,7 @@ pub fn fixpoint(text: &[u8], k: usize, capacity: usize, out: &mut [u8]) -> usize
     let verdict = read.verdict;
     let program = read.program;
     match verdict {
-        Verdict::Accepted => put_fixpoint(program, k, capacity, out),
+        Verdict::Accepted => put_fixpoint(program, places, capacity, out),
         Verdict::Refused(number) => reporting::put_refused_line(out, number as u64),
     }
 }

@@ -25,7 +25,7 @@ pub const MOST_BYTES: usize = 103_000;
 pub const NODE_LIMIT: u64 = 33_554_431;
 
 // ---- items and what stands between them
-pub fn put_one(out: &mut [u8], b: u8) -> usize
+fn put_one(out: &mut [u8], b: u8) -> usize
     requires { ⌜ length (byte b) ≤ length (now out) ⌝ }
     ensures { λ r. ⌜ Wrote (byte b) (now (out .entry)) r (now (out .exit)) ⌝ }
 {
@@ -79,6 +79,7 @@ fn put_refused(out: &mut [u8]) -> usize
     lists::put_bytes(out, b"refused")
 }
 
+// The word of an outcome.
 pub fn put_word(out: &mut [u8], outcome: Outcome) -> usize
     requires { ⌜ length (outcomeWord outcome) ≤ length (now out) ⌝ }
     ensures { λ r. ⌜ Wrote (outcomeWord outcome) (now (out .entry)) r (now (out .exit)) ⌝ }
@@ -100,6 +101,7 @@ fn put_last_line(out: &mut [u8], outcome: Outcome, m: u64, v: u64) -> usize
     a + b
 }
 
+// The line of a refusal.
 pub fn put_refused_line(out: &mut [u8], number: u64) -> usize
     requires { ⌜ length (refusedLine number) ≤ length (now out) ⌝ }
     ensures { λ r. ⌜ Wrote (refusedLine number) (now (out .entry)) r (now (out .exit)) ⌝ }

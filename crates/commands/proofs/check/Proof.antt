@@ -1,10 +1,8 @@
 -- `commands::check` meets its contract. Assumes nothing.
 use native.Mathlib.Omega.{arith}
-use Rattle.search.specs.declared.Outcome.the-variants as ended
-use Rattle.stable.specs.declared.Checked.the-variants as found
 use Rattle.reporting.proofs.Texts.{refused-most}
 use Rattle.reporting.proofs.Printing.{no-room, prints-accepted, prints-refused}
-use Rattle.commands.specs.Commands.{checkText, checkOutput, room}
+use Rattle.commands.specs.Commands.{checkText, checkOutput}
 use Rattle.commands.proofs.Rules.{rules}
 use Rattle.commands.proofs.check.Statement.{statement}
 use Rattle.commands.proofs.check.Tie as tie

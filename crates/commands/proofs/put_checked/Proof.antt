@@ -4,7 +4,6 @@ use native.Mathlib.Nat.{le-trans}
 use native.Mathlib.Omega.{arith}
 use Rattle.text.specs.Lines.{lineOf}
 use Rattle.lists.specs.Bytes.{join, led}
-use Rattle.search.specs.declared.Outcome.the-variants as ended
 use Rattle.stable.specs.declared.Checked.the-variants as found
 use Rattle.reporting.proofs.Texts.{refused-most, numbered-most}
 use Rattle.commands.specs.Commands.{checkedLine, violatedWord, smallerWord, stableWord}

@@ -1,8 +1,6 @@
 -- `commands::put_fixed` meets its contract. Assumes nothing.
 use native.Mathlib.Omega.{arith}
 use Rattle.program.proofs.Validity.{valid-names}
-use Rattle.search.specs.declared.Outcome.the-variants as ended
-use Rattle.stable.specs.declared.Checked.the-variants as found
 use Rattle.reporting.proofs.Texts.{refused-most}
 use Rattle.commands.proofs.Laws.{fixed-here, fixed-room, fixed-wrote, fixed-refused}
 use Rattle.commands.proofs.Rules.{rules}

@@ -1,8 +1,6 @@
 -- `commands::put_outcome` meets its contract. Assumes nothing.
 use native.Mathlib.Omega.{arith}
 use lib.ListN.{length-append}
-use Rattle.search.specs.declared.Outcome.the-variants as ended
-use Rattle.stable.specs.declared.Checked.the-variants as found
 use Rattle.reporting.specs.Lines.{tailText, outcomeWord}
 use Rattle.reporting.proofs.Texts.{numbered-room}
 use Rattle.commands.proofs.Rules.{rules}

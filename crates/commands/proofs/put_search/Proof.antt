@@ -1,6 +1,4 @@
 -- `commands::put_search` meets its contract. Assumes nothing.
-use Rattle.search.specs.declared.Outcome.the-variants as ended
-use Rattle.stable.specs.declared.Checked.the-variants as found
 use Rattle.commands.proofs.Laws.{cut-long, cut-short, search-cut}
 use Rattle.commands.proofs.Rules.{rules}
 use Rattle.commands.proofs.put_search.Statement.{statement}

@@ -1,8 +1,6 @@
 -- `commands::put_summarized` meets its contract. Assumes nothing.
 use native.Mathlib.Omega.{arith}
 use Rattle.program.proofs.Validity.{valid-names}
-use Rattle.search.specs.declared.Outcome.the-variants as ended
-use Rattle.stable.specs.declared.Checked.the-variants as found
 use Rattle.reporting.proofs.Texts.{refused-most}
 use Rattle.showing.proofs.Laws.{lines-room}
 use Rattle.commands.proofs.Laws.{lines-wrote, summary-refused}

@@ -1,8 +1,6 @@
 -- `commands::put_summary` meets its contract. Assumes nothing.
 use mathlib.Core.Path.{sym}
 use lib.Seq.{length-take-le}
-use Rattle.search.specs.declared.Outcome.the-variants as ended
-use Rattle.stable.specs.declared.Checked.the-variants as found
 use Rattle.reporting.proofs.Searched.{listed-here}
 use Rattle.commands.proofs.Laws.{summary-wrote}
 use Rattle.commands.proofs.Rules.{rules}

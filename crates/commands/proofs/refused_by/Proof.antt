@@ -1,7 +1,5 @@
 -- `commands::refused_by` meets its contract. Assumes nothing.
 use Rattle.search.specs.Answer.{refusedBy}
-use Rattle.search.specs.declared.Outcome.the-variants as ended
-use Rattle.stable.specs.declared.Checked.the-variants as found
 use Rattle.commands.proofs.Rules.{rules}
 use Rattle.commands.proofs.refused_by.Statement.{statement}
 use Rattle.commands.proofs.refused_by.Tie as tie

@@ -1,11 +1,9 @@
 -- `commands::search` meets its contract. Assumes nothing.
 use native.Mathlib.Omega.{arith}
-use Rattle.search.specs.declared.Outcome.the-variants as ended
-use Rattle.stable.specs.declared.Checked.the-variants as found
 use Rattle.reporting.specs.Report.{searchText}
 use Rattle.reporting.proofs.Texts.{refused-most}
 use Rattle.reporting.proofs.Printing.{no-room, read-valid, prints-accepted, prints-refused}
-use Rattle.commands.specs.Commands.{searchOutput, room}
+use Rattle.commands.specs.Commands.{searchOutput}
 use Rattle.commands.proofs.Rules.{rules}
 use Rattle.commands.proofs.search.Statement.{statement}
 use Rattle.commands.proofs.search.Tie as tie

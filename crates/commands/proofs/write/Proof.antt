@@ -1,11 +1,9 @@
 -- `commands::write` meets its contract. Assumes nothing.
 use native.Mathlib.Omega.{arith}
 use Rattle.text.specs.Render.{render}
-use Rattle.search.specs.declared.Outcome.the-variants as ended
-use Rattle.stable.specs.declared.Checked.the-variants as found
 use Rattle.reporting.proofs.Texts.{refused-most}
 use Rattle.reporting.proofs.Printing.{no-room, read-valid, prints-accepted, prints-refused}
-use Rattle.commands.specs.Commands.{room, writeOutput}
+use Rattle.commands.specs.Commands.{writeOutput}
 use Rattle.commands.proofs.Laws.{render-short}
 use Rattle.commands.proofs.Rules.{rules}
 use Rattle.commands.proofs.write.Statement.{statement}

@@ -1,8 +1,6 @@
 -- `showing::bits_of` meets its contract. Assumes nothing.
 use Prim.Native.Nat.{_-_}
 use Rattle.lists.proofs.Filling.{Filled}
-use Rattle.search.specs.declared.Outcome.the-variants as ended
-use Rattle.stable.specs.declared.Checked.the-variants as found
 use Rattle.reporting.proofs.Texts.{shown}
 use Rattle.showing.specs.Showing.{bitAt}
 use Rattle.showing.proofs.Rules.{rules}

@@ -1,6 +1,4 @@
 -- `showing::put_bits` meets its contract. Assumes nothing.
-use Rattle.search.specs.declared.Outcome.the-variants as ended
-use Rattle.stable.specs.declared.Checked.the-variants as found
 use Rattle.reporting.proofs.Texts.{shown}
 use Rattle.showing.proofs.Laws.{bits-room, bits-wrote}
 use Rattle.showing.proofs.Rules.{rules}

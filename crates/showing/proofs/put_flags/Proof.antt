@@ -1,6 +1,4 @@
 -- `showing::put_flags` meets its contract. Assumes nothing.
-use Rattle.search.specs.declared.Outcome.the-variants as ended
-use Rattle.stable.specs.declared.Checked.the-variants as found
 use Rattle.showing.proofs.Laws.{flags-room, flags-wrote}
 use Rattle.showing.proofs.Rules.{rules}
 use Rattle.showing.proofs.put_flags.Statement.{statement}

@@ -3,8 +3,6 @@ use mathlib.Core.List.{List, _++_}
 use Prim.Native.Nat.{ℕ}
 use native.Mathlib.Omega.{arith}
 use lib.ListN.{length-append}
-use Rattle.search.specs.declared.Outcome.the-variants as ended
-use Rattle.stable.specs.declared.Checked.the-variants as found
 use Rattle.reporting.proofs.Texts.{first-room, second-room, shown}
 use Rattle.showing.specs.Showing.{bitsLine}
 use Rattle.showing.proofs.Rules.{rules}

@@ -6,8 +6,6 @@ use lib.ListN.{length-append}
 use Rattle.sets.specs.Lists.{tabulate}
 use Rattle.program.specs.Names.{nameAt}
 use Rattle.text.specs.Lines.{namesLine}
-use Rattle.search.specs.declared.Outcome.the-variants as ended
-use Rattle.stable.specs.declared.Checked.the-variants as found
 use Rattle.reporting.proofs.Texts.{first-room, second-room, shown}
 use Rattle.showing.specs.Showing.{fourLines, flagsLine}
 use Rattle.showing.proofs.Rules.{rules}
