@@ -1,3 +1,5 @@
--- The laws of the report's text.
+-- The laws of what is printed.
 pub mod Texts
+pub mod Searched
+pub mod Printing
 pub mod Rules

@@ -1,5 +1,5 @@
--- The lines of a report: their parts, their lengths, and the models written line by line. Assumes nothing.
-use mathlib.Core.Path.{_≡_, refl, sym, ap, ap₂, _∙_}
+-- The lines that are printed: their parts, their lengths, and the models written line by line. Assumes nothing.
+use mathlib.Core.Path.{_≡_, refl, sym, ap, _∙_}
 use mathlib.Core.Bool.{Bool, true, false, cond}
 use mathlib.Core.Logic.{_⊎_, inl, inr, ⊎-elim}
 use mathlib.Core.List.{List, [], _∷_, _++_, append-assoc, append-nil, map, flatMap}
@@ -27,24 +27,36 @@ use Rattle.program.specs.Values.{valueIn, clauseValue, clauseValues, wordValues
 use Rattle.writer.specs.Lines.{firstOf}
 use Rattle.writer.proofs.Lines.{Valued, valued-start, valued-more, valued-done, clause-wrote, clause-room}
 use Rattle.text.specs.Lines.{lineOf, namesLine, valuesLine}
-use Rattle.text.specs.declared.Read.{Read}
-use Rattle.text.specs.declared.Verdict.the-variants.{Accepted, Refused}
-use Rattle.text.specs.Tables.{zeroTable}
-use Rattle.text.specs.Refusals.{refusal}
-use Rattle.text.specs.Reading.{refusedBy, programOf, readOf}
-use Rattle.text.proofs.RoundTrip.{refused-by, read-back, accepted-exactly}
 use Rattle.search.specs.declared.Outcome.{Outcome}
 use Rattle.search.specs.declared.Outcome.the-variants as ended
 use Rattle.search.specs.declared.SearchAnswer.{SearchAnswer}
 use Rattle.search.specs.Tree.{Node, hits}
 use Rattle.search.specs.Answer.{answer, overfull, fullAt, runAnswer, leafOf, nodesOf, answerOf, exitOf, listed, Searches}
 use Rattle.search.proofs.Runs.{accepted, same-places}
-use Rattle.reporting.specs.Report.{byte, endText, tailText, countsText, bothText, refusedWord, outcomeWord, refusedLine, lastLine, modelLines, allowance, lent, searchText, reportOf, mostBytes, Reports}
+use Rattle.reporting.specs.Lines.{byte, tailText, bothText, refusedWord, outcomeWord, numbered, refusedLine, lastLine, modelLines, listing}
 
 -- ---- one byte
 pub one-wrote : (b : ℕ) (xs : List ℕ) → 1 ≤ length xs → Wrote (byte b) xs 1 (set xs 0 b)
 one-wrote b [] h = absurd (omega arith)
 one-wrote b (x ∷ xs) h = record { size = refl; whole = refl }
+
+-- ---- one text behind the other: there is room for each, and a count of both
+module _ (xs t u : List ℕ) (h : length (t ++ u) ≤ length xs) where
+  pub first-room : length t ≤ length xs
+  first-room = omega (arith, length-append t u)
+
+  module _ (a : ℕ) (ys : List ℕ) (w : Wrote t xs a ys) where
+    both-room : a + length u ≤ length ys
+    both-room = omega (arith, w .size, ap length (w .whole), length-append t (drop (length t) xs), length-drop (length t) xs, length-append t u)
+
+    pub second-from : a ≤ length ys
+    second-from = omega (arith, both-room)
+
+    pub second-room : length u ≤ length (take (length ys - a) (drop a ys))
+    second-room = simp (length-take, length-drop) (omega (arith, both-room))
+
+    pub both-small : (b : ℕ) (ws : List ℕ) → Wrote u (take (length ys - a) (drop a ys)) b ws → a + b ≤ length ys
+    both-small b ws v = omega (arith, both-room, v .size)
 
 -- ---- a line of two items, of three
 two-items : (a b : List ℕ) → lineOf (a ∷ b ∷ []) ≡ a ++ ((32 ∷ []) ++ (b ++ 10 ∷ []))
@@ -57,13 +69,33 @@ three-items a b c =
     append-assoc a (32 ∷ (b ++ 32 ∷ (c ++ []))) (10 ∷ [])
     ∙ ap (λ (l : List ℕ). a ++ (32 ∷ l)) (append-assoc b (32 ∷ (c ++ [])) (10 ∷ []) ∙ ap (λ (l : List ℕ). b ++ (32 ∷ (l ++ 10 ∷ []))) (append-nil c))
 
-pub refused-is : (r : ℕ) → refusedLine r ≡ refusedWord ++ tailText r
+pub numbered-is : (w : List ℕ) (v : ℕ) → numbered w v ≡ w ++ tailText v
+unfolding numbered
+numbered-is w v = two-items w (decimal v)
+
+pub numbered-room : (w : List ℕ) (v : ℕ) (xs : List ℕ) → length (numbered w v) ≤ length xs → length (w ++ tailText v) ≤ length xs
+numbered-room w v xs h = rw (← numbered-is w v) h
+
+pub numbered-wrote : (w : List ℕ) (v : ℕ) (xs : List ℕ) (k : ℕ) (ys : List ℕ) → Wrote (w ++ tailText v) xs k ys → Wrote (numbered w v) xs k ys
+numbered-wrote w v xs k ys h = rw (numbered-is w v) h
+
+pub refused-room : (r : ℕ) (xs : List ℕ) → length (refusedLine r) ≤ length xs → length (refusedWord ++ tailText r) ≤ length xs
 unfolding refusedLine
-refused-is r = two-items refusedWord (decimal r)
+refused-room r xs h = numbered-room refusedWord r xs h
+
+pub refused-wrote : (r : ℕ) (xs : List ℕ) (k : ℕ) (ys : List ℕ) → Wrote (refusedWord ++ tailText r) xs k ys → Wrote (refusedLine r) xs k ys
+unfolding refusedLine
+refused-wrote r xs k ys w = numbered-wrote refusedWord r xs k ys w
 
 pub last-is : (o : Outcome) (m v : ℕ) → lastLine o m v ≡ outcomeWord o ++ bothText m v
 unfolding lastLine
 last-is o m v = three-items (outcomeWord o) (decimal m) (decimal v)
+
+pub last-room : (o : Outcome) (m v : ℕ) (xs : List ℕ) → length (lastLine o m v) ≤ length xs → length (outcomeWord o ++ bothText m v) ≤ length xs
+last-room o m v xs h = rw (← last-is o m v) h
+
+pub last-wrote : (o : Outcome) (m v : ℕ) (xs : List ℕ) (k : ℕ) (ys : List ℕ) → Wrote (outcomeWord o ++ bothText m v) xs k ys → Wrote (lastLine o m v) xs k ys
+last-wrote o m v xs k ys w = rw (last-is o m v) w
 
 -- ---- the word of an outcome
 pub word-room : (o p : Outcome) (xs : List ℕ) → o ≡ p → length (outcomeWord o) ≤ length xs → length (outcomeWord p) ≤ length xs
@@ -91,7 +123,7 @@ line-most b (i ∷ is) f =
     let e : (b + 1) * suc (length is) ≡ (b + 1) * length is + (b + 1) = omega arith in
     omega (arith, length-append (i ++ led 32 is) (10 ∷ []), length-append i (led 32 is))
 
-word-most : (o : Outcome) → length (outcomeWord o) ≤ 20
+pub word-most : (o : Outcome) → length (outcomeWord o) ≤ 20
 unfolding outcomeWord refusedWord
 word-most ended.Complete = omega arith
 word-most ended.Full = omega arith
@@ -115,14 +147,18 @@ last-most o m v h k = line-most 20 (outcomeWord o ∷ decimal m ∷ decimal v �
     each i (inr (inr (inl e))) = rw e (number-most v k)
     each i (inr (inr (inr x))) = absurd x
 
+pub numbered-most : (w : List ℕ) (v : ℕ) → length w ≤ 20 → v < 2 ^ 64 → length (numbered w v) ≤ 64
+unfolding numbered
+numbered-most w v l h = let m = line-most 20 (w ∷ decimal v ∷ []) each in omega arith
+  where
+    each : Each (λ i. length i ≤ 20) (w ∷ decimal v ∷ [])
+    each i (inl e) = rw e l
+    each i (inr (inl e)) = rw e (number-most v h)
+    each i (inr (inr x)) = absurd x
+
 pub refused-most : (r : ℕ) → r < 2 ^ 64 → length (refusedLine r) ≤ 64
 unfolding refusedLine
-refused-most r h = let l = line-most 20 (refusedWord ∷ decimal r ∷ []) each in omega arith
-  where
-    each : Each (λ i. length i ≤ 20) (refusedWord ∷ decimal r ∷ [])
-    each i (inl e) = rw e refused-word-most
-    each i (inr (inl e)) = rw e (number-most r h)
-    each i (inr (inr x)) = absurd x
+refused-most r h = numbered-most refusedWord r refused-word-most h
 
 -- ---- the line of a model
 pub value-small : (w i : ℕ) → valueIn w i < 4
@@ -148,15 +184,19 @@ module _ (vs : List ℕ) (w n : ℕ) (xs : List ℕ) (e : vs ≡ clauseValues 12
   pub model-wrote : (r : ℕ) (ys : List ℕ) → Wrote (valuesLine (firstOf n vs)) xs r ys → Wrote (valuesLine (wordValues n w)) xs r ys
   model-wrote r ys v = rw (← word-line w n) (clause-wrote (clauseOf w 0 0) vs n xs r ys e h v)
 
+-- a line of values of one digit
+pub digits-most : (f : ℕ → ℕ) (n : ℕ) → ((i : ℕ) → f i < 10) → n ≤ 12 → length (valuesLine (tabulate f n)) ≤ 25
+unfolding valuesLine tabulate
+digits-most f n d h =
+    let e : map decimal (upFrom f n 0) ≡ upFrom (λ j. decimal (f j)) n 0 = map-upFrom decimal f n 0 in
+    let l = line-most 1 (upFrom (λ j. decimal (f j)) n 0) (λ i m.
+    let r = upFrom-in (λ j. decimal (f j)) n 0 i m in
+    rw (r .3, decimal-one (f (r .0)) (d (r .0))) (omega arith)) in
+    rw e (omega (arith, length-tabulate (λ j. decimal (f j)) n))
+
 model-most : (w n : ℕ) → n ≤ 12 → length (valuesLine (wordValues n w)) ≤ 25
-unfolding valuesLine wordValues tabulate
-model-most w n h =
-    let e : map decimal (upFrom (valueIn w) n 0) ≡ upFrom (λ j. decimal (valueIn w j)) n 0 = map-upFrom decimal (valueIn w) n 0 in
-    let l = line-most 1 (upFrom (λ j. decimal (valueIn w j)) n 0) (λ i m.
-    let r = upFrom-in (λ j. decimal (valueIn w j)) n 0 i m in
-    let q = decimal-one (valueIn w (r .0)) (omega (arith, value-small w (r .0))) in
-    rw (r .3, q) (omega arith)) in
-    rw e (omega (arith, length-tabulate (λ j. decimal (valueIn w j)) n))
+unfolding wordValues
+model-most w n h = digits-most (valueIn w) n (λ i. omega (arith, value-small w i)) h
 
 pub models-most : (n : ℕ) (ws : List ℕ) → n ≤ 12 → length (modelLines n ws) ≤ 25 * length ws
 unfolding modelLines flatMap
@@ -230,114 +270,24 @@ module _ (ms : List ℕ) (m n : ℕ) where
     pub list-done : (at : ℕ) (out : List ℕ) (k : ℕ) → Listed at out k → m ≤ k → Wrote linesText xs at out
     list-done at out k s h = put-done xs linesText at out (put-as xs linesText at out _ _ (s .put) (lines-none k h (s .held)))
 
--- ---- the whole report
-name-most : (xs : List ℕ) (i : ℕ) → length (nameAt xs i) ≤ 8
+-- ---- the names line and the lines of the models
+pub name-most : (xs : List ℕ) (i : ℕ) → length (nameAt xs i) ≤ 8
 unfolding nameAt place
 name-most xs i = omega (arith, length-take (index 0 (take 8 (drop (8 * i) xs))) (take 8 (drop (8 * i) xs)), length-take 8 (drop (8 * i) xs))
 
-names-most : (xs : List ℕ) (n : ℕ) → n ≤ 12 → length (namesLine (tabulate (nameAt xs) n)) ≤ 109
+pub names-most : (xs : List ℕ) (n : ℕ) → n ≤ 12 → length (namesLine (tabulate (nameAt xs) n)) ≤ 109
 unfolding namesLine tabulate
 names-most xs n h =
     let l = line-most 8 (upFrom (nameAt xs) n 0) (λ i m. let r = upFrom-in (nameAt xs) n 0 i m in rw (r .3) (name-most xs (r .0))) in
     omega (arith, length-tabulate (nameAt xs) n)
 
--- no more words are written than there are places
-run-fits : (hit : Node → Bool) (ns : List Node) (A L : ℕ) → runAnswer hit ns A L .written ≤ L
-unfolding runAnswer overfull
-run-fits hit ns A L = go (ltb L (length (hits hit (take A ns)))) refl (ltb A (length ns))
-  where
-    go : (b : Bool) → ltb L (length (hits hit (take A ns))) ≡ b → (c : Bool)
-        → (cond b (answer ended.Full L (fullAt hit ns L)) (cond c (answer ended.Spent (length (hits hit (take A ns))) A) (answer ended.Complete (length (hits hit (take A ns))) (length ns)))) .written ≤ L
-    go true e c = let q : L ≤ L = omega arith in q
-    go false e true = ltb-false _ _ e
-    go false e false = ltb-false _ _ e
+abbrev pub shown : List ℕ → ℕ → List ℕ → ℕ → List ℕ
+shown ns n ms m = namesLine (tabulate (nameAt ns) n) ++ modelLines n (take m ms)
 
-module _ (p : Program) (v : valid p ≡ true) (a : SearchAnswer) (ms : List ℕ) (s : Searches p allowance lent a ms) where
-  pub places : a .written ≤ 4096
-  places =
-      let q = ap (λ (x : SearchAnswer). x .written) (s .says ∙ accepted p allowance lent v .0) in
-      let f = run-fits (leafOf p) (nodesOf p) allowance (length lent) in
-      omega (arith, length-replicate {A = ℕ} 4096 0)
+pub shown-most : (ns : List ℕ) (n : ℕ) (ms : List ℕ) (m : ℕ) → n ≤ 12 → m ≤ 4096 → length (shown ns n ms m) ≤ 102509
+shown-most ns n ms m h k =
+    omega (arith, length-append (namesLine (tabulate (nameAt ns) n)) (modelLines n (take m ms)), names-most ns n h, models-most n (take m ms) h, length-take m ms)
 
-  pub models-long : length ms ≡ 4096
-  models-long = ap length (s .lists) ∙ same-places p allowance lent ∙ length-replicate {A = ℕ} 4096 0
-
-  pub listed-here : a .written ≤ length ms
-  listed-here = omega (arith, places, models-long)
-
-  pub text-most : a .visited < 2 ^ 64
-      → length (namesLine (tabulate (nameAt (p .«atom_names»)) (p .«atom_count»)) ++ (modelLines (p .«atom_count») (take (a .written) ms) ++ lastLine (a .outcome) (a .written) (a .visited))) ≤ mostBytes
-  text-most h =
-      let few = valid-names p v .few in
-      let ws = take (a .written) ms in
-      let ls = modelLines (p .«atom_count») ws in
-      let t = lastLine (a .outcome) (a .written) (a .visited) in
-      let n = namesLine (tabulate (nameAt (p .«atom_names»)) (p .«atom_count»)) in
-      let k = places in
-      omega (
-        arith,
-        length-append n (ls ++ t),
-        length-append ls t,
-        names-most (p .«atom_names») (p .«atom_count») few,
-        models-most (p .«atom_count») ws few,
-        length-take-le (a .written) ms listed-here,
-        last-most (a .outcome) (a .written) (a .visited) (omega arith) h,
-      )
-
-  pub search-wrote : (xs : List ℕ) (r : ℕ) (ys : List ℕ)
-      → Wrote (namesLine (tabulate (nameAt (p .«atom_names»)) (p .«atom_count»)) ++ (modelLines (p .«atom_count») (take (a .written) ms) ++ lastLine (a .outcome) (a .written) (a .visited))) xs r ys → Wrote (searchText p) xs r ys
-  unfolding searchText listed namesOf
-  search-wrote xs r ys w = rw (← s .says, ← s .lists) w
-
--- ---- the ways that the call returns
-module _ (b xs : List ℕ) where
-  pub no-room : length xs < mostBytes → Reports b xs 0 xs
-  no-room h = record { size = rw (lt-leb mostBytes (length xs) h); whole = rw (lt-leb mostBytes (length xs) h); within = omega arith; part = refl }
-
-  reported : (r : ℕ) (ys : List ℕ) → mostBytes ≤ length xs → Wrote (reportOf b) xs r ys → Reports b xs r ys
-  reported r ys h w =
-      let l : r ≤ length ys = omega (arith, w .size, ap length (w .whole), length-append (reportOf b) (drop (length (reportOf b)) xs)) in
-      record {
-        size = w .size ∙ rw (le-leb mostBytes (length xs) h);
-        whole = w .whole ∙ rw (le-leb mostBytes (length xs) h);
-        within = l;
-        part = sym (length-take-le r ys l);
-      }
-
-  module _ (d : Read) (e : d ≡ readOf b) where
-    cleared : d .verdict ≡ Accepted → refusal b ≡ 0
-    cleared t = sym (refused-by b) ∙ ap (λ (x : Read). refusedBy (x .verdict)) (sym e) ∙ ap refusedBy t
-
-    pub read-valid : d .verdict ≡ Accepted → valid (d .program) ≡ true
-    read-valid t =
-        let x = accepted-exactly b .0 (ap (λ (x : Read). refusedBy (x .verdict)) (sym e) ∙ ap refusedBy t) in
-        let q = e ∙ ap readOf (sym (x .3)) ∙ read-back (x .0) (x .1) (x .2) in
-        ap (λ (y : Read). valid (y .program)) q ∙ x .2
-
-    read-program : refusal b ≡ 0 → d .program ≡ programOf b
-    unfolding readOf
-    read-program z = ap (λ (x : Read). x .program) e ∙ rw z
-
-    pub reports-search : (r : ℕ) (ys : List ℕ) → mostBytes ≤ length xs → d .verdict ≡ Accepted → Wrote (searchText (d .program)) xs r ys → Reports b xs r ys
-    unfolding reportOf
-    reports-search r ys h t w = reported r ys h (let z = cleared t in rw z (rw (read-program z) at w))
-
-    number-is : (n : ℕ) → d .verdict ≡ Refused n → n ≡ refusal b
-    number-is n t = sym (ap refusedBy t) ∙ ap (λ (x : Read). refusedBy (x .verdict)) e ∙ refused-by b
-
-    accepted-zero : refusal b ≡ 0 → readOf b .verdict ≡ Accepted
-    unfolding readOf
-    accepted-zero z = rw z
-
-    not-zero : (n : ℕ) → d .verdict ≡ Refused n → eqb (refusal b) 0 ≡ false
-    not-zero n t = ⊎-elim
-        (λ q. absurd (
-        let y : Refused n ≡ Accepted = sym t ∙ ap (λ (x : Read). x .verdict) e ∙ accepted-zero (eqb-true _ _ q) in
-        let z : _≡_ {A = ℕ} 0 1 = cc in
-        omega arith))
-        (λ f. f)
-        (dec (eqb (refusal b) 0))
-
-    pub reports-refusal : (n r : ℕ) (ys : List ℕ) → mostBytes ≤ length xs → d .verdict ≡ Refused n → Wrote (refusedLine n) xs r ys → Reports b xs r ys
-    unfolding reportOf
-    reports-refusal n r ys h t w = reported r ys h (rw (not-zero n t, ← number-is n t) w)
+pub shown-is : (p : Program) (ms : List ℕ) (m : ℕ) → shown (p .«atom_names») (p .«atom_count») ms m ≡ listing p (take m ms)
+unfolding listing namesOf
+shown-is p ms m = refl

@@ -1,2 +1,4 @@
--- The report's whole output.
+-- The lines that are printed, what every call that prints does, and the report's whole output.
+pub mod Lines
+pub mod Printing
 pub mod Report

@@ -1,4 +1,4 @@
-// The report: its whole output at the front of a lent slice.
+// The report: its whole output at the front of a lent slice, and the lines that other calls print too.
 ghost use mathlib.Core.Path.{_≡_};
 ghost use mathlib.Core.Bool.{true};
 ghost use mathlib.Core.List.{_++_};
@@ -11,19 +11,22 @@ ghost use Rattle.program.specs.Names.{nameAt};
 ghost use Rattle.program.specs.Values.{clauseValues, wordValues};
 ghost use Rattle.program.specs.Valid.{valid};
 ghost use Rattle.text.specs.Lines.{namesLine, valuesLine};
-ghost use Rattle.reporting.specs.Report.{byte, endText, tailText, countsText, bothText, outcomeWord, refusedWord, refusedLine, modelLines, lastLine, searchText, reportOf, mostBytes, Reports};
+ghost use Rattle.reporting.specs.Lines.{byte, endText, tailText, countsText, bothText, outcomeWord, refusedWord, refusedLine, modelLines, lastLine};
+ghost use Rattle.reporting.specs.Printing.{mostBytes, Prints};
+ghost use Rattle.reporting.specs.Report.{searchText, allowance, lent, reportOf};
 use program::Program;
 use search::Outcome;
 use text::Verdict;
 
-// A slice of so many bytes has room for every report.
+// A slice of so many bytes has room for every text that is printed.
 pub const MOST_BYTES: usize = 103_000;
 
-const NODE_LIMIT: u64 = 33_554_431;
+// The report's limit of nodes, which no search of a table that was read exceeds.
+pub const NODE_LIMIT: u64 = 33_554_431;
 
 // ---- items and what stands between them
 fn put_one(out: &mut [u8], b: u8) -> usize
-    requires { ⌜ 1 ≤ length (now out) ⌝ }
+    requires { ⌜ length (byte b) ≤ length (now out) ⌝ }
     ensures { λ r. ⌜ Wrote (byte b) (now (out .entry)) r (now (out .exit)) ⌝ }
 {
     out[0] = b;
@@ -40,7 +43,8 @@ fn put_end(out: &mut [u8], v: u64) -> usize
     a + b
 }
 
-fn put_tail(out: &mut [u8], v: u64) -> usize
+// A space and the last number of a line.
+pub fn put_tail(out: &mut [u8], v: u64) -> usize
     requires { ⌜ length (tailText v) ≤ length (now out) ⌝ }
     ensures { λ r. ⌜ Wrote (tailText v) (now (out .entry)) r (now (out .exit)) ⌝ }
 {
@@ -75,7 +79,8 @@ fn put_refused(out: &mut [u8]) -> usize
     lists::put_bytes(out, b"refused")
 }
 
-fn put_word(out: &mut [u8], outcome: Outcome) -> usize
+// The word of an outcome.
+pub fn put_word(out: &mut [u8], outcome: Outcome) -> usize
     requires { ⌜ length (outcomeWord outcome) ≤ length (now out) ⌝ }
     ensures { λ r. ⌜ Wrote (outcomeWord outcome) (now (out .entry)) r (now (out .exit)) ⌝ }
 {
@@ -96,7 +101,8 @@ fn put_last_line(out: &mut [u8], outcome: Outcome, m: u64, v: u64) -> usize
     a + b
 }
 
-fn put_refused_line(out: &mut [u8], number: u64) -> usize
+// The line of a refusal.
+pub fn put_refused_line(out: &mut [u8], number: u64) -> usize
     requires { ⌜ length (refusedLine number) ≤ length (now out) ⌝ }
     ensures { λ r. ⌜ Wrote (refusedLine number) (now (out .entry)) r (now (out .exit)) ⌝ }
 {
@@ -142,18 +148,17 @@ fn put_model_lines(out: &mut [u8], models: &[u32], m: usize, n: usize) -> usize
     at
 }
 
-// ---- the report
-// The lines of the models, and the last line.
-fn put_found(out: &mut [u8], models: &[u32], m: usize, n: usize, outcome: Outcome, v: u64) -> usize
-    requires { ⌜ (1 ≤ n) × (n ≤ 12) × (m ≤ length (now models)) × (length (modelLines n (take m (now models)) ++ lastLine outcome m v) ≤ length (now out)) ⌝ }
-    ensures { λ r. ⌜ Wrote (modelLines n (take m (now (models .entry))) ++ lastLine outcome m v) (now (out .entry)) r (now (out .exit)) ⌝ }
+// The names line, and the lines of the first `m` words behind it.
+pub fn put_listing(out: &mut [u8], names: &[u8; 96], n: usize, models: &[u32], m: usize) -> usize
+    requires { ⌜ (1 ≤ n) × (n ≤ 12) × (m ≤ length (now models)) × (length (namesLine (tabulate (nameAt (now names)) n) ++ modelLines n (take m (now models))) ≤ length (now out)) ⌝ }
+    ensures { λ r. ⌜ Wrote (namesLine (tabulate (nameAt (now (names .entry))) n) ++ modelLines n (take m (now (models .entry)))) (now (out .entry)) r (now (out .exit)) ⌝ }
 {
-    let a = put_model_lines(out, models, m, n);
-    let b = put_last_line(&mut out[a..], outcome, m as u64, v);
+    let a = writer::put_names_line(out, names, n);
+    let b = put_model_lines(&mut out[a..], models, m, n);
     a + b
 }
 
-// The names line, and what was found behind it.
+// A listing, and the last line behind it.
 fn put_answer(
     out: &mut [u8],
     names: &[u8; 96],
@@ -163,31 +168,40 @@ fn put_answer(
     outcome: Outcome,
     v: u64,
 ) -> usize
-    requires { ⌜ (1 ≤ n) × (n ≤ 12) × (m ≤ length (now models)) × (length (namesLine (tabulate (nameAt (now names)) n) ++ (modelLines n (take m (now models)) ++ lastLine outcome m v)) ≤ length (now out)) ⌝ }
-    ensures { λ r. ⌜ Wrote (namesLine (tabulate (nameAt (now (names .entry))) n) ++ (modelLines n (take m (now (models .entry))) ++ lastLine outcome m v)) (now (out .entry)) r (now (out .exit)) ⌝ }
+    requires { ⌜ (1 ≤ n) × (n ≤ 12) × (m ≤ length (now models)) × (length ((namesLine (tabulate (nameAt (now names)) n) ++ modelLines n (take m (now models))) ++ lastLine outcome m v) ≤ length (now out)) ⌝ }
+    ensures { λ r. ⌜ Wrote ((namesLine (tabulate (nameAt (now (names .entry))) n) ++ modelLines n (take m (now (models .entry)))) ++ lastLine outcome m v) (now (out .entry)) r (now (out .exit)) ⌝ }
 {
-    let a = writer::put_names_line(out, names, n);
-    let b = put_found(&mut out[a..], models, m, n, outcome, v);
+    let a = put_listing(out, names, n, models, m);
+    let b = put_last_line(&mut out[a..], outcome, m as u64, v);
     a + b
 }
 
-fn put_search(p: Program, out: &mut [u8]) -> usize
-    requires { ⌜ (valid p ≡ true) × (mostBytes ≤ length (now out)) ⌝ }
-    ensures { λ r. ⌜ Wrote (searchText p) (now (out .entry)) r (now (out .exit)) ⌝ }
+// ---- the report
+// A search of `p` in the lent list, printed.
+pub fn put_search(p: Program, node_limit: u64, models: &mut [u32], out: &mut [u8]) -> usize
+    requires { ⌜ (valid p ≡ true) × (length (now models) ≤ 4096) × (mostBytes ≤ length (now out)) ⌝ }
+    ensures { λ r. ⌜ Wrote (searchText «node_limit» (now (models .entry)) p) (now (out .entry)) r (now (out .exit)) ⌝ }
 {
-    let mut models = [0u32; 4096];
-    let a = search::search(p, NODE_LIMIT, &mut models);
+    let a = search::search(p, node_limit, models);
     let n = p.atom_count;
     let names = p.atom_names;
     let outcome = a.outcome;
     let m = a.written;
     let v = a.visited;
-    put_answer(out, &names, n, &models, m, outcome, v)
+    put_answer(out, &names, n, models, m, outcome, v)
+}
+
+fn put_whole_search(p: Program, out: &mut [u8]) -> usize
+    requires { ⌜ (valid p ≡ true) × (mostBytes ≤ length (now out)) ⌝ }
+    ensures { λ r. ⌜ Wrote (searchText allowance lent p) (now (out .entry)) r (now (out .exit)) ⌝ }
+{
+    let mut models = [0u32; 4096];
+    put_search(p, NODE_LIMIT, &mut models, out)
 }
 
 // The report on `text` at the front of `out`, or nothing where `out` is shorter than `MOST_BYTES`; its length.
 pub fn report(text: &[u8], out: &mut [u8]) -> usize
-    ensures { λ r. ⌜ Reports (now (text .entry)) (now (out .entry)) r (now (out .exit)) ⌝ }
+    ensures { λ r. ⌜ Prints (reportOf (now (text .entry))) (now (out .entry)) r (now (out .exit)) ⌝ }
 {
     if out.len() < MOST_BYTES {
         return 0;
@@ -196,7 +210,7 @@ pub fn report(text: &[u8], out: &mut [u8]) -> usize
     let verdict = read.verdict;
     let program = read.program;
     match verdict {
-        Verdict::Accepted => put_search(program, out),
+        Verdict::Accepted => put_whole_search(program, out),
         Verdict::Refused(number) => put_refused_line(out, number as u64),
     }
 }

@@ -1,5 +1,5 @@
 -- `reporting::put_refused` meets its contract. Assumes nothing.
-use Rattle.reporting.specs.Report.{refusedWord}
+use Rattle.reporting.specs.Lines.{refusedWord}
 use Rattle.reporting.proofs.Rules.{rules}
 use Rattle.reporting.proofs.put_refused.Statement.{statement}
 use Rattle.reporting.proofs.put_refused.Tie as tie

@@ -1,7 +1,7 @@
 -- `reporting::put_word` meets its contract. Assumes nothing.
 use mathlib.Core.Path.{refl}
 use Rattle.search.specs.declared.Outcome.the-variants.{Complete, Full, Spent}
-use Rattle.reporting.specs.Report.{outcomeWord}
+use Rattle.reporting.specs.Lines.{outcomeWord}
 use Rattle.reporting.proofs.Texts.{word-room, word-wrote}
 use Rattle.reporting.proofs.Rules.{rules}
 use Rattle.reporting.proofs.put_word.Statement.{statement}

@@ -1,6 +1,8 @@
 -- `reporting::report` meets its contract. Assumes nothing.
 use native.Mathlib.Omega.{arith}
-use Rattle.reporting.proofs.Texts.{refused-most, no-room, read-valid, reports-search, reports-refusal}
+use Rattle.reporting.specs.Report.{reportOf, searchText, allowance, lent}
+use Rattle.reporting.proofs.Texts.{refused-most}
+use Rattle.reporting.proofs.Printing.{no-room, read-valid, prints-accepted, prints-refused}
 use Rattle.reporting.proofs.Rules.{rules}
 use Rattle.reporting.proofs.report.Statement.{statement}
 use Rattle.reporting.proofs.report.Tie as tie
@@ -8,20 +10,21 @@ use Rattle.reporting.proofs.report.Tie as tie
 returns : tie.Need-returns
 returns c = no-room _ _ (c .if1 .taken)
 
-put-search-requires : tie.Need-put-search-requires
-put-search-requires c κs =
-    let s = c .before .before .before .before .before .before .before .before in
+put-whole-search-requires : tie.Need-put-whole-search-requires
+put-whole-search-requires c κs = let s = c .before .before .before .before .before .before .before .before in
     let d = c .before .before .before .before .read-program in
-    (read-valid (s .args .text .now) (s .args .out .now) (d .result) (d .ensures) (c .before .enum-told .given .1), c .before .before .before .before .before .if1 .left)
+    (read-valid (s .args .text .now) (d .result) (d .ensures) (c .before .enum-told .given .1), c .before .before .before .before .before .if1 .left)
 
 put-refused-line-requires : tie.Need-put-refused-line-requires
 put-refused-line-requires c κs = let n = c .before .before .verdict .given .0 .0 in omega (arith, refused-most n (omega arith), c .before .before .before .before .before .before .if1 .left)
 
 returns-2 : tie.Need-returns-2
-returns-2 c = let d = c .before .before .before .before .before .before .before .read-program in reports-search _ _ (d .result) (d .ensures) _ _ (c .before .before .before .before .before .before .before .before .if1 .left) (c .before .before .before .before .enum-told .given .1) (c .before .before .put-search .ensures)
+unfolding reportOf
+returns-2 c = let d = c .before .before .before .before .before .before .before .read-program in prints-accepted _ (d .result) (d .ensures) (searchText allowance lent) _ _ _ (c .before .before .before .before .before .before .before .before .if1 .left) (c .before .before .before .before .enum-told .given .1) (c .before .before .put-whole-search .ensures)
 
 returns-3 : tie.Need-returns-3
-returns-3 c = let d = c .before .before .before .before .before .before .before .before .read-program in reports-refusal _ _ (d .result) (d .ensures) _ _ _ (c .before .before .before .before .before .before .before .before .before .if1 .left) (c .before .before .before .before .before .verdict .given .1) (c .before .before .put-refused-line .ensures)
+unfolding reportOf
+returns-3 c = let d = c .before .before .before .before .before .before .before .before .read-program in prints-refused _ (d .result) (d .ensures) (searchText allowance lent) _ _ _ (c .before .before .before .before .before .before .before .before .before .if1 .left) _ (c .before .before .before .before .before .verdict .given .1) (c .before .before .put-refused-line .ensures)
 
 pub report-spec : {M : Type 1} → statement M
-report-spec = tie.close (tie.spec returns (λ c. search rules) (λ c. search rules) put-search-requires (λ c. search rules) (λ c. search rules) put-refused-line-requires (λ c. search rules) returns-2 (λ c. search rules) returns-3)
+report-spec = tie.close (tie.spec returns (λ c. search rules) (λ c. search rules) put-whole-search-requires (λ c. search rules) (λ c. search rules) put-refused-line-requires (λ c. search rules) returns-2 (λ c. search rules) returns-3)

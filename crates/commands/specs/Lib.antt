@@ -1,0 +1,2 @@
+-- What each word of the command line prints.
+pub mod Commands
