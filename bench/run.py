@@ -1,6 +1,7 @@
 #!/usr/bin/env python3
 """Builds report.c with gcc -O2, compares what it and target/bin/report print for every book of books/, byte for byte, and prints the two
-times and their ratio: the least user time of several runs of each, one after the other in turn. From the repository's root: rt check report &&
+times and their ratio: the least user time of several runs of each, one after the other in turn. Then the fixpoint of each book of stages/,
+by target/bin/pstable with 65,536 words in each working slice, against a limit in seconds. From the repository's root: rt check report pstable &&
 python3 bench/run.py [RUNS [BOOK ..]]"""
 import os
 import resource
@@ -9,16 +10,17 @@ import sys
 
 here = os.path.dirname(os.path.abspath(__file__))
 report = os.path.join(here, "..", "target", "bin", "report")
+pstable = os.path.join(here, "..", "target", "bin", "pstable")
 yardstick = os.path.join(here, "..", "target", "report_c")
 runs = int(sys.argv[1]) if len(sys.argv) > 1 else 5
 books = sys.argv[2:] or sorted(os.path.join(here, "books", name) for name in os.listdir(os.path.join(here, "books")))
 subprocess.run(["gcc", "-O2", "-o", yardstick, os.path.join(here, "report.c")], check=True)
 
 
-def run(program, book):
+def run(program, book, *words):
     before = resource.getrusage(resource.RUSAGE_CHILDREN).ru_utime
     with open(book) as text:
-        out = subprocess.run([program], stdin=text, capture_output=True).stdout
+        out = subprocess.run([program, *words], stdin=text, capture_output=True).stdout
     return resource.getrusage(resource.RUSAGE_CHILDREN).ru_utime - before, out
 
 
@@ -39,4 +41,14 @@ for book in books:
     if a > 5 or (c >= 0.02 and a > 1.3 * c):
         failed, last = 1, last + "  (slow)"
     print("%-14s %8.3f %8.3f %s  %s" % (os.path.basename(book), a, c, ratio, last))
+# the seconds that the fixpoint of a book may take, and how its output ends
+stages = {"one_head": (0.05, "complete 6"), "random_heads": (2, "refused 12"), "large_stage": (1, "complete 120")}
+if len(sys.argv) < 3:
+    print("%-14s %8s %8s  %s" % ("stages", "fixpoint", "limit", "last line"))
+    for name, (limit, end) in stages.items():
+        tries = [run(pstable, os.path.join(here, "stages", name), "fixpoint", "4096", "65536") for _ in range(runs)]
+        a, last = min(t for t, _ in tries), tries[0][1].decode().rstrip("\n").split("\n")[-1]
+        if a > limit or last != end:
+            failed, last = 1, last + "  (expected %s in %s s)" % (end, limit)
+        print("%-14s %8.3f %8.2f  %s" % (name, a, limit, last))
 sys.exit(failed)
