@@ -11,8 +11,9 @@ use Rattle.program.specs.Clauses.{clauses}
 use Rattle.semantics.specs.Interpretations.{models}
 use Rattle.stages.specs.Run.{crowded}
 use Rattle.search.specs.declared.Outcome.{Outcome}
-use Rattle.search.specs.declared.Outcome.the-variants.{Complete}
-use Rattle.search.specs.Answer.{nodesOf, refusedBy}
+use Rattle.search.specs.declared.Outcome.the-variants.{Complete, Full, Spent}
+use Rattle.search.specs.declared.SearchAnswer.{SearchAnswer}
+use Rattle.search.specs.Answer.{nodesOf, leafOf, fullAt, refusedBy}
 use Rattle.search.specs.Answer as search
 use Rattle.fixpoint.specs.Answer.{vocabulary, transformOf, roomOf}
 use Rattle.fixpoint.specs.Answer as fixpoint
@@ -43,10 +44,20 @@ listed p r = take (written p r) (exit p r)
 abbrev pub allModels : Program → List ℕ
 allModels p = models (p .«atom_count») (clauses p)
 
+-- what an answer counts as visited, by its outcome
+unfoldable pub Counts : ℕ → ℕ → ℕ → SearchAnswer → Type 0
+Counts A N F a = (a .outcome ≡ Spent → a .visited ≡ A) × (a .outcome ≡ Complete → a .visited ≡ N) × (a .outcome ≡ Full → a .visited ≡ F)
+
 -- when document 01 says complete: the allowance reaches N, or 11 and 12 do not apply; and the list has a place for every p-stable model
 unfoldable pub Enough : Program → Run → Type 0
 Enough p (searched A l) = (length (nodesOf p) ≤ A) × (length (allModels p) ≤ length l)
 Enough p (fixed l w v) = (vocabulary p ≤ 64) × (crowded (transformOf p) (roomOf w v) ≡ false) × (length (allModels p) ≤ length l)
+
+-- the nodes that a search visited: "Else if A < N it is spent, with A nodes visited. Else it is complete, with N visited.";
+-- of a full one, as many as it takes to come to a p-stable node more than there are places. A fixpoint visits none.
+unfoldable pub Visits : Program → Run → Type 0
+Visits p (searched A l) = Counts A (length (nodesOf p)) (fullAt (leafOf p) (nodesOf p) (length l)) (search.answerOf p A l)
+Visits p (fixed l w v) = Unit {0}
 
 -- ---- what one run lists
 pub record OneRun (p : Program) (r : Run) : Type 0 where
@@ -58,6 +69,8 @@ pub record OneRun (p : Program) (r : Run) : Type 0 where
   -- "complete says all, and exactly when document 01 says"
   pub complete-all : outcome p r ≡ Complete → listed p r ≡ allModels p
   pub complete-exactly : (outcome p r ≡ Complete) ↔ Enough p r
+  -- "outcome, models written and nodes visited"
+  pub visits : Visits p r
 
 -- ---- demand 3, one claim about any two runs over one table, by whichever route each goes
 pub record TwoRuns (p : Program) (r s : Run) : Type 0 where
