@@ -27,7 +27,6 @@ use Rattle.text.specs.declared.Written.the-variants as written
 use Rattle.text.proofs.RoundTrip.{refused-by, written-back}
 use Rattle.stable.specs.declared.Checked.{Checked}
 use Rattle.stable.specs.Check.{Checks}
-use Rattle.search.specs.declared.Outcome.{Outcome}
 use Rattle.search.specs.declared.SearchAnswer.{SearchAnswer}
 use Rattle.search.specs.Answer.{listed, refusedBy, Searches}
 use Rattle.fixpoint.specs.declared.FixpointAnswer.{FixpointAnswer}
@@ -90,9 +89,6 @@ unfolding checkText
 check-wrote p w c xs r ys s h = rw (← s .answer) h
 
 -- ---- the fixpoint
-pub outcome-number : (o q : Outcome) (n : ℕ) → o ≡ q → refusedBy q ≡ n → n ≡ refusedBy o
-outcome-number o q n e f = sym (ap refusedBy e ∙ f)
-
 overwritten-long : (l ws : List ℕ) → length (overwrite l ws) ≡ length l
 unfolding overwrite
 overwritten-long l ws = length-append (take (length l) ws) (drop (length ws) l) ∙ omega (arith, length-take (length l) ws, length-drop (length ws) l)

@@ -7,7 +7,6 @@ use lib.Dec.{eqb}
 use borrow.Author.Tests.{eqb-true}
 use Rattle.sets.proofs.Tests.{dec}
 use Rattle.program.specs.declared.Program.{Program}
-use Rattle.text.specs.declared.Read.{Read}
 use Rattle.text.specs.Refusals.{refusal}
 use Rattle.text.specs.Reading.{readOf, programOf, IsAccepted}
 use Rattle.text.specs.Render.{render}

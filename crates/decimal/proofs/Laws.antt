@@ -1,16 +1,14 @@
 -- Laws of the decimal text: digit by digit, one text for each number, and the number that a text is. Assumes nothing.
 use mathlib.Core.Path.{_≡_, refl, sym, ap, _∙_}
-use mathlib.Core.Bool.{Bool, true, false, cond}
+use mathlib.Core.Bool.{Bool, true, false}
 use mathlib.Core.Logic.{⊎-elim}
 use mathlib.Core.List.{List, [], _∷_, _++_}
 use Prim.Native.Nat.{ℕ, zero, suc, _+_, _-_, _*_, _/_, _%_, _^_, _≤_, _<_}
 use native.Mathlib.Nat.{pow-suc}
 use native.Mathlib.Omega.{arith}
-use lib.Dec.{ltb, leb}
 use lib.ListN.{length, length-append}
 use borrow.Author.Tests.{lt-ltb, le-ltb, le-leb, lt-leb}
 use Rattle.sets.specs.Lists.{every}
-use Rattle.sets.specs.Least.{least}
 use Rattle.sets.proofs.Tests.{dec, lt-or-ge, both-true, clash}
 use Rattle.sets.proofs.Least.{least-is, least-hit, least-none, least-le}
 use Rattle.lists.specs.Bytes.{same}

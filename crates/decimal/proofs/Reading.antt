@@ -1,22 +1,21 @@
 -- Reading a number digit by digit, and putting it. Assumes nothing.
 use mathlib.Core.Path.{_≡_, refl, sym, ap, ap₂, _∙_}
-use mathlib.Core.Bool.{Bool, true, false, cond, _&&_, _||_, and-false}
+use mathlib.Core.Bool.{Bool, true, false, _&&_, _||_, and-false}
 use mathlib.Core.Logic.{⊎-elim}
-use mathlib.Core.List.{List, [], _∷_, _++_, append-nil}
+use mathlib.Core.List.{List, [], _∷_, _++_}
 use Prim.Native.Nat.{ℕ, zero, suc, _+_, _-_, _*_, _/_, _%_, _^_, _≤_, _<_}
-use native.Mathlib.Nat.{add-zero}
 use native.Mathlib.Numerals.{add-one}
 use native.Mathlib.Omega.{arith}
 use lib.Dec.{ltb, leb}
-use lib.ListN.{length, getD, take, drop, set, length-append}
+use lib.ListN.{length, getD, take, set, length-append}
 use lib.Seq.{take-all, take-suc, take-append-seam, getD-append-add}
-use borrow.Author.Tests.{lt-ltb, le-ltb, le-leb, lt-leb, ltb-true, ltb-false, leb-true, leb-false}
-use Rattle.sets.proofs.Tests.{dec, lt-or-ge, both-true, both-false, clash}
-use Rattle.lists.specs.Bytes.{over, Wrote}
-use Rattle.lists.proofs.Writing.{Put, put-start, put-step, put-byte, put-done, put-as, put-long, wrote-put}
+use borrow.Author.Tests.{lt-ltb, le-ltb, le-leb, lt-leb, ltb-true, ltb-false, leb-true}
+use Rattle.sets.proofs.Tests.{lt-or-ge, both-true, both-false, clash}
+use Rattle.lists.specs.Bytes.{Wrote}
+use Rattle.lists.proofs.Writing.{Put, put-byte, put-done, put-long, wrote-put}
 use Rattle.decimal.specs.declared.Parsed.the-variants.{Number, Nothing}
-use Rattle.decimal.specs.Decimal.{decimal, numberOf, parsedOf, digitOf, goesOn, Measures}
-use Rattle.decimal.proofs.Laws.{decimal-one, decimal-more, by-tens, length-more, decimal-long, decimal-short, decimal-injective, number-hit, number-back, number-none, number-le}
+use Rattle.decimal.specs.Decimal.{decimal, parsedOf, digitOf, goesOn, Measures}
+use Rattle.decimal.proofs.Laws.{decimal-one, decimal-more, by-tens, length-more, decimal-long, decimal-short, decimal-injective, number-hit, number-none}
 
 -- ---- digits
 pub digit-low : (x : ℕ) → x < 48 → 10 ≡ digitOf x

@@ -1,12 +1,12 @@
 -- What is decided: membership, tests over lists, equality of clauses and of atoms. Assumes nothing.
 use mathlib.Core.Path.{_≡_, refl, sym, ap, subst}
 use mathlib.Core.Logic.{inl, inr, ⊎-elim}
-use mathlib.Core.Bool.{Bool, true, false, not}
+use mathlib.Core.Bool.{Bool, true, false}
 use mathlib.Core.List.{List, [], _∷_, nil≢cons, cons≢nil, head-eq-of-cons-eq, tail-eq-of-cons-eq}
 use Prim.Native.Nat.{ℕ}
 use native.Mathlib.Decide.{ℕ-discrete}
 use lib.Dec.{T}
-use Rattle.epistemic.specs.Positive.{yes?, All, Any, Rule, Sat, Model}
+use Rattle.epistemic.specs.Positive.{yes?, All, Any}
 use Rattle.epistemic.specs.Transform.{Tagged, Atom, lit, know, stand}
 use Rattle.sets.specs.Lists.{_∈_, Each, Some}
 use Rattle.sets.specs.Words.{Set}
@@ -90,9 +90,6 @@ dec-all W l = dec-each (λ x. T (W x)) (λ x. dec-T (W x)) l
 
 pub dec-any : {A : Type 0} (W : Set A) (l : List A) → Dec (Any W l)
 dec-any W l = dec-some (λ x. T (W x)) (λ x. dec-T (W x)) l
-
-pub dec-model : {A : Type 0} (W : Set A) (Q : List (Rule A)) → Dec (Model W Q)
-dec-model W Q = dec-each (Sat W) (λ r. dec-imp (dec-all W (r .body)) (dec-any W (r .head))) Q
 
 -- ---- atoms are told apart
 

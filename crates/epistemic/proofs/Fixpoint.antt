@@ -9,7 +9,7 @@ use lib.Dec.{T}
 use Rattle.epistemic.proofs.Decisions.{Atom-discrete}
 use Rattle.epistemic.proofs.Shrinking.{theorem-kappa}
 use Rattle.epistemic.proofs.Stages.{answers, stages-end, fixpoint-minimal}
-use Rattle.epistemic.specs.Positive.{All, Rule, Model, Minimal, choices, stage, Same, MinimalIn}
+use Rattle.epistemic.specs.Positive.{All, Rule, Model, Minimal, choices, Same, MinimalIn}
 use Rattle.epistemic.specs.Transform.{Tagged, Stable, Atom, kappa, Canonical, lits}
 use Rattle.sets.proofs.Lists.{in-flatMap}
 use Rattle.sets.proofs.Tests.{T?}

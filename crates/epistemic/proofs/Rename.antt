@@ -8,7 +8,7 @@ use Rattle.epistemic.proofs.Decisions.{yes?-in, yes?-out, dec-in, dec-s
 use Rattle.epistemic.proofs.Kappa.{all-map, map-all, any-map, map-any}
 use Rattle.epistemic.specs.Positive.{yes?, Rule, Sat, Model, Minimal}
 use Rattle.sets.proofs.Lists.{in-map, map-in}
-use Rattle.sets.proofs.Tests.{T-and, T-and-l, T-and-r, T-ext}
+use Rattle.sets.proofs.Tests.{T-and, T-and-l, T-and-r}
 use Rattle.sets.specs.Lists.{_∈_, Some}
 use Rattle.sets.specs.Words.{Set}
 
@@ -86,7 +86,3 @@ module _ {A B : Type 0} (dA : Discrete A) (dB : Discrete B) (ν : A → B) (Vo :
       least = λ N sub g b t. let s = image-out M b t in
           subst (λ z. T (N z)) (sym (s .2 .0)) (pull-out N (s .0) (h .least (pull N) (λ a u. image-at M a (pull-V N a u) (sub (ν a) (pull-out N a u))) (model-pull N .0 g) (s .0) (s .2 .1)));
     }
-
-    -- what is pulled back from the image is the set, on Vo
-    pub pull-image : (M : Set A) (a : A) → a ∈ Vo → pull (image M) a ≡ M a
-    pull-image M a m = T-ext (pull (image M) a) (M a) (λ t. image-at M a m (pull-out (image M) a t)) (λ t. pull-in (image M) a m (image-in M a m t))

@@ -6,14 +6,14 @@ use mathlib.Core.List.{List, [], _∷_, _++_, map}
 use Prim.Native.Nat.{ℕ, zero, suc, _^_}
 use native.Mathlib.Decide.{ℕ-discrete}
 use lib.Dec.{T, T-not, not-T, eqb, eqb→eq, eqb-refl}
-use lib.Bits.{bitAnd, bitOr}
+use lib.Bits.{bitAnd}
 use Rattle.epistemic.proofs.Decisions.{yes?-in, yes?-out}
 use Rattle.epistemic.proofs.Stages.{holds→All, All→holds, touches, touches→Any, Any→touches}
 use Rattle.epistemic.specs.Positive.{yes?, Any, Rule, empty, holds, add, choices, stage}
 use Rattle.sets.proofs.Digits.{inside→⊑, ⊑→inside, bit-and, bit-or, bit-pow, bit-zero, bit-ext}
-use Rattle.sets.proofs.Lists.{in-flatMap, flatMap-in, in-map, map-in}
+use Rattle.sets.proofs.Lists.{in-map, map-in}
 use Rattle.sets.proofs.Tests.{T?, T-and, T-and-l, T-and-r, T-or, T-or-l, T-or-r, T-ext}
-use Rattle.sets.specs.Lists.{_∈_, Some}
+use Rattle.sets.specs.Lists.{_∈_}
 use Rattle.sets.specs.Words.{mask, put, bit, inside, Set}
 use mathlib.Core.List.{flatMap}
 
@@ -102,15 +102,6 @@ in-wstage Q k w = (
 pub stage-word : (Q : List (Rule ℕ)) (k : ℕ) (J : Set ℕ) → J ∈ stage ℕ-discrete Q k → (w : ℕ) × (w ∈ wstage Q k) × (J ≡ bit w)
 stage-word Q k J m = map-in bit J (wstage Q k) (subst (λ l. J ∈ l) (sym (bits-stage Q k)) m)
 
--- a list with the same words as a stage gives, by every choice from every word, the words of the next stage
-pub next-stage : (Q : List (Rule ℕ)) (k : ℕ) (now next : List ℕ) → ((w : ℕ) → (w ∈ now) ↔ (w ∈ wstage Q k)) → ((v : ℕ) → (v ∈ next) ↔ Some (λ w. v ∈ wchoices w Q) now)
-    → (v : ℕ) → (v ∈ next) ↔ (v ∈ wstage Q (suc k))
-unfolding wstage
-next-stage Q k now next h g v = (
-  λ i. let s = g v .0 i in in-flatMap (λ w. wchoices w Q) (s .0) v (wstage Q k) (h (s .0) .0 (s .1)) (s .2),
-  λ i. let s = flatMap-in (λ w. wchoices w Q) v (wstage Q k) i in g v .1 (s .0, h (s .0) .1 (s .1), s .2),
-)
-
 -- ---- meeting
 
 pub meets→Any : (w : ℕ) (l : List ℕ) → T (not (eqb (bitAnd (mask l) w) 0)) → Any (bit w) l
@@ -124,7 +115,3 @@ meets→Any w l t = go (T? (touches (bit w) l))
 pub Any→meets : (w : ℕ) (l : List ℕ) → Any (bit w) l → T (not (eqb (bitAnd (mask l) w) 0))
 Any→meets w l s = not-T (eqb (bitAnd (mask l) w) 0) (λ t.
     subst T (bit-zero (s .0)) (subst (λ z. T (bit z (s .0))) (eqb→eq (bitAnd (mask l) w) 0 t) (subst T (sym (bit-and (mask l) w (s .0))) (T-and (bit (mask l) (s .0)) (bit w (s .0)) (mask-in l (s .0) (s .1)) (s .2)))))
-
-pub meets-mask : (w : ℕ) (l : List ℕ) → not (eqb (bitAnd (mask l) w) 0) ≡ touches (bit w) l
-meets-mask w l = T-ext (not (eqb (bitAnd (mask l) w) 0)) (touches (bit w) l)
-    (λ t. let s = meets→Any w l t in Any→touches (bit w) l (s .0) (s .1) (s .2)) (λ t. Any→meets w l (touches→Any (bit w) l t))

@@ -1,19 +1,18 @@
 -- The ways that the fixpoint's routines return. Assumes nothing.
-use mathlib.Core.Path.{_≡_, refl, sym, ap, ap₂, _∙_, subst}
+use mathlib.Core.Path.{_≡_, refl, sym, ap, _∙_, subst}
 use mathlib.Core.Logic.{⊎-elim}
 use mathlib.Core.Bool.{Bool, true, false, cond, not}
-use mathlib.Core.List.{List, [], _∷_, _++_, map}
-use Prim.Native.Nat.{ℕ, zero, suc, _+_, _*_, _%_, _^_, _≤_, _<_, min}
-use native.Mathlib.Nat.{mod-lt, lt-of-lt-of-le, zero-add}
+use mathlib.Core.List.{List, [], _∷_, map}
+use Prim.Native.Nat.{ℕ, zero, suc, _+_, _^_, _≤_, _<_, min}
+use native.Mathlib.Nat.{mod-lt, lt-of-lt-of-le}
 use native.Mathlib.Numerals.{add-one}
 use native.Mathlib.Omega.{arith}
 use borrow.Author.Needs.{needs}
 use borrow.Author.Tests.{le-leb, lt-leb, lt-ltb, le-ltb, not-true, not-false}
-use lib.Dec.{leb, ltb, eqb}
+use lib.Dec.{ltb, eqb}
 use lib.Pow.{pow-pos, pow-mono}
-use lib.ListN.{length, getD, take, drop}
+use lib.ListN.{length, take}
 use Rattle.sets.specs.Lists.{_∈_, Each, sift, upFrom, tabulate}
-use Rattle.sets.proofs.Tests.{clash}
 use Rattle.sets.proofs.Lists.{map-in}
 use Rattle.program.specs.declared.Program.{Program}
 use Rattle.program.specs.Clauses.{Clause, clauseAt, rowsOf, rows, clauses}
@@ -29,7 +28,6 @@ use Rattle.stages.specs.Minimal.{minimalModels, Minimals}
 use Rattle.rising.proofs.RisingSets.{in-addAll}
 use Rattle.transform.specs.Transform.{epistemic, allStandIns, members}
 use Rattle.transform.specs.Emit.{clausesFrom, Emits, Room, Book}
-use Rattle.search.specs.declared.Outcome.{Outcome}
 use Rattle.search.specs.declared.Outcome.the-variants.{Complete, Full, Refused}
 use Rattle.fixpoint.specs.declared.FixpointAnswer.{FixpointAnswer}
 use Rattle.transform.specs.Listing.{literalPart, canonical, listing}

@@ -1,6 +1,5 @@
 -- The list of the fixpoint holds exactly the p-stable words. Assumes nothing.
-use Prim.Native.Nat.{ℕ, _+_, _^_, _≤_, _<_}
-use lib.ListN.{length}
+use Prim.Native.Nat.{ℕ, _^_, _≤_, _<_}
 use lib.Pow.{pow-pos}
 use mathlib.Core.List.{List, [], map}
 use mathlib.Core.Logic.{inl, ⊎-elim}
@@ -23,7 +22,6 @@ use Rattle.stages.proofs.Minimal.{rests, wordRule, minimal-out, minimal-in}
 use Rattle.rising.proofs.RisingSets.{in-addAll, addAll-in, addAll-rising, nothing-rises}
 use Rattle.rising.specs.Literals.{literals}
 use Rattle.stages.specs.Minimal.{satisfies, minimals, minimalModels}
-use Rattle.operator.specs.Operator.{WordRule}
 use Rattle.stages.specs.Run.{ending, finalStage}
 
 -- ---- the theorem

@@ -1,12 +1,12 @@
 -- Loops over the items of a line and the lines of a text. Assumes nothing.
 use mathlib.Core.Path.{_≡_, refl, sym, ap, _∙_}
 use mathlib.Core.Bool.{Bool, true, false, cond, _&&_, _||_}
-use mathlib.Core.List.{List, [], _∷_}
+use mathlib.Core.List.{List}
 use Prim.Native.Nat.{ℕ, _+_, _≤_, _<_}
 use native.Mathlib.Omega.{arith}
-use lib.ListN.{length, take, drop, length-take}
+use lib.ListN.{length, drop}
 use Rattle.sets.specs.Lists.{every, some}
-use Rattle.lists.specs.Bytes.{same, distinct, pieces, ended, endOf, EndsAt}
+use Rattle.lists.specs.Bytes.{same, distinct, pieces, ended, EndsAt}
 use Rattle.lists.proofs.Pieces.{left, part, left-start, left-step, left-done, line-step, line-done}
 
 module _ (c : ℕ) (xs : List ℕ) where

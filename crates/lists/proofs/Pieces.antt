@@ -3,7 +3,7 @@ use mathlib.Core.Path.{_≡_, refl, sym, ap, ap₂, _∙_}
 use mathlib.Core.Bool.{Bool, true, false, cond}
 use mathlib.Core.Logic.{⊎-elim}
 use mathlib.Core.List.{List, [], _∷_, _++_, append-nil}
-use Prim.Native.Nat.{ℕ, zero, suc, _+_, _-_, _≤_, _<_}
+use Prim.Native.Nat.{ℕ, suc, _+_, _-_, _≤_, _<_}
 use native.Mathlib.Nat.{add-zero}
 use native.Mathlib.Numerals.{add-one}
 use native.Mathlib.Omega.{arith}
@@ -129,10 +129,6 @@ module _ (c : ℕ) where
   lead : (p : List ℕ) (ps : List (List ℕ)) → led c (p ∷ ps) ≡ c ∷ join c (p ∷ ps)
   unfolding join led
   lead p ps = refl
-
-  join-onto : (x : ℕ) (p : List ℕ) (ps : List (List ℕ)) → join c (onto x (p ∷ ps)) ≡ x ∷ join c (p ∷ ps)
-  unfolding join onto
-  join-onto x p ps = refl
 
   pub join-pieces : (xs : List ℕ) → join c (pieces c xs) ≡ xs
   unfolding pieces join led onto

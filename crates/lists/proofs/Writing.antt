@@ -1,15 +1,15 @@
 -- A text that is written from the front, piece by piece. Assumes nothing.
 use mathlib.Core.Path.{_≡_, refl, sym, ap, ap₂, _∙_}
 use mathlib.Core.List.{List, [], _∷_, _++_, append-assoc, append-nil}
-use Prim.Native.Nat.{ℕ, zero, suc, _+_, _-_, _≤_, _<_}
-use native.Mathlib.Nat.{add-zero, add-assoc, zero-add}
+use Prim.Native.Nat.{ℕ, _+_, _-_, _≤_, _<_}
+use native.Mathlib.Nat.{zero-add}
 use native.Mathlib.Numerals.{add-one}
 use native.Mathlib.Omega.{arith}
 use borrow.Author.Needs.{needs}
 use Rattle.lists.specs.Bytes.{over, Wrote}
 use Rattle.lists.proofs.Loops.{ahead, at-end}
-use lib.ListN.{length, getD, take, drop, set, length-append, length-drop, length-take, take-append-drop, drop-of-length-le}
-use lib.Seq.{take-all, length-take-le, drop-drop, take-at, drop-at, drop-append-add, take-add, take-append-seam, drop-append-seam, set-split, take-suc}
+use lib.ListN.{length, getD, take, drop, set, length-append, length-drop, drop-of-length-le}
+use lib.Seq.{take-all, length-take-le, drop-drop, take-at, drop-append-add, take-add, take-append-seam, drop-append-seam, set-split}
 
 -- the bytes ys over xs from a on
 abbrev pub written : List ℕ → ℕ → List ℕ → List ℕ

@@ -1,12 +1,10 @@
 -- Laws of the clauses of a table. Assumes nothing.
-use mathlib.Core.Path.{_≡_, refl, sym, ap, _∙_}
+use mathlib.Core.Path.{_≡_}
 use Prim.Native.Nat.{ℕ, _<_}
 use mathlib.Core.List.{List}
 use lib.ListN.{length, getD}
-use Rattle.sets.specs.Lists.{tabulate}
 use Rattle.sets.proofs.Lists.{length-tabulate, getD-tabulate}
-use Rattle.program.specs.declared.Program.{Program}
-use Rattle.program.specs.Clauses.{Clause, clauseAt, rowsOf, rows, clauses}
+use Rattle.program.specs.Clauses.{Clause, clauseAt, rowsOf}
 
 pub length-rows : (hs bs ns : List ℕ) (n : ℕ) → length (rowsOf hs bs ns n) ≡ n
 unfolding rowsOf
@@ -15,8 +13,3 @@ length-rows hs bs ns n = length-tabulate (clauseAt hs bs ns) n
 pub row-at : (hs bs ns : List ℕ) (n k : ℕ) (d : Clause) → k < n → getD (rowsOf hs bs ns n) k d ≡ clauseAt hs bs ns k
 unfolding rowsOf
 row-at hs bs ns n k d h = getD-tabulate (clauseAt hs bs ns) n k d h
-
--- the rows of a table are those of its columns
-pub rows-are : (p : Program) → rows p ≡ rowsOf (p .heads) (p .bodies) (p .nafs) (p .«clause_count»)
-unfolding rows
-rows-are p = refl

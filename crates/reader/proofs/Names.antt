@@ -1,17 +1,17 @@
 -- The names of a text, put into their places. Assumes nothing.
 use mathlib.Core.Path.{_≡_, refl, sym, ap, _∙_}
-use mathlib.Core.Bool.{Bool, true, false}
-use mathlib.Core.List.{List, [], _∷_, _++_, flatMap}
-use Prim.Native.Nat.{ℕ, _+_, _-_, _*_, _≤_, _<_}
+use mathlib.Core.Bool.{true}
+use mathlib.Core.List.{List, _∷_, _++_, flatMap}
+use Prim.Native.Nat.{ℕ, _+_, _-_, _≤_, _<_}
 use native.Mathlib.Omega.{arith}
-use lib.ListN.{length, getD, take, drop, set, replicate, length-take, length-drop}
+use lib.ListN.{length, getD, take, drop, set, length-take, length-drop}
 use Rattle.sets.specs.Lists.{every}
 use Rattle.sets.proofs.Tests.{both-true}
 use Rattle.lists.specs.Bytes.{pieces, EndsAt, padded, over}
 use Rattle.lists.proofs.Pieces.{left, part, left-start, left-step, left-done}
 use Rattle.lists.proofs.Loops.{ahead, at-end}
 use Rattle.lists.proofs.Writing.{Put, put-start, put-step, put-byte, put-done, put-as, put-room, put-long, part-back}
-use Rattle.lists.proofs.Padding.{padded-long, padded-at, over-padded}
+use Rattle.lists.proofs.Padding.{padded-long, padded-at}
 use Rattle.program.specs.Names.{isName}
 use Rattle.text.specs.Tables.{placed}
 use Rattle.text.proofs.Names.{name-short, placed-long}

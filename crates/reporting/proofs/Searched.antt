@@ -1,5 +1,5 @@
 -- The text of a search: there is room for it, and it is that of the search's answer and list. Assumes nothing.
-use mathlib.Core.Path.{_≡_, refl, sym, ap, _∙_}
+use mathlib.Core.Path.{_≡_, refl, ap, _∙_}
 use mathlib.Core.Bool.{Bool, true, false, cond}
 use mathlib.Core.List.{List, _++_}
 use Prim.Native.Nat.{ℕ, _^_, _≤_, _<_}
@@ -14,7 +14,7 @@ use Rattle.program.proofs.Validity.{valid-names}
 use Rattle.search.specs.declared.Outcome.the-variants as ended
 use Rattle.search.specs.declared.SearchAnswer.{SearchAnswer}
 use Rattle.search.specs.Tree.{Node, hits}
-use Rattle.search.specs.Answer.{answer, overfull, fullAt, runAnswer, leafOf, nodesOf, answerOf, exitOf, listed, Searches}
+use Rattle.search.specs.Answer.{answer, overfull, fullAt, runAnswer, leafOf, nodesOf, listed, Searches}
 use Rattle.search.proofs.Runs.{accepted, same-places}
 use Rattle.reporting.specs.Lines.{lastLine}
 use Rattle.reporting.specs.Printing.{mostBytes}

@@ -1,38 +1,28 @@
 -- The lines that are printed: their parts, their lengths, and the models written line by line. Assumes nothing.
 use mathlib.Core.Path.{_≡_, refl, sym, ap, _∙_}
-use mathlib.Core.Bool.{Bool, true, false, cond}
-use mathlib.Core.Logic.{_⊎_, inl, inr, ⊎-elim}
+use mathlib.Core.Logic.{inl, inr}
 use mathlib.Core.List.{List, [], _∷_, _++_, append-assoc, append-nil, map, flatMap}
-use Prim.Native.Nat.{ℕ, zero, suc, _+_, _-_, _*_, _/_, _%_, _^_, _≤_, _<_}
-use native.Mathlib.Nat.{add-zero, zero-div}
+use Prim.Native.Nat.{ℕ, suc, _+_, _-_, _*_, _/_, _^_, _≤_, _<_}
+use native.Mathlib.Nat.{zero-div}
 use native.Mathlib.Numerals.{add-one}
 use native.Mathlib.Omega.{arith}
-use lib.Dec.{eqb, ltb, leb}
-use lib.ListN.{length, getD, take, drop, set, replicate, length-append, length-take, length-drop, length-replicate}
-use borrow.Author.Tests.{eqb-true, ltb-false, le-leb, lt-leb}
+use lib.ListN.{length, getD, take, drop, set, length-append, length-take, length-drop}
 use lib.Seq.{length-take-le, drop-cons, getD-take}
-use Rattle.sets.specs.Lists.{_∈_, Each, upFrom, tabulate}
-use Rattle.sets.proofs.Tests.{dec}
-use Rattle.sets.proofs.Lists.{length-tabulate, map-in, upFrom-in, upFrom-ext, map-upFrom}
-use Rattle.lists.specs.Bytes.{join, led, over, index, Wrote}
-use Rattle.lists.proofs.Writing.{Put, put-start, put-step, put-done, put-as, put-long, part-back, back, two-texts}
+use Rattle.sets.specs.Lists.{Each, upFrom, tabulate}
+use Rattle.sets.proofs.Lists.{length-tabulate, upFrom-in, upFrom-ext, map-upFrom}
+use Rattle.lists.specs.Bytes.{join, led, index, Wrote}
+use Rattle.lists.proofs.Writing.{Put, put-start, put-step, put-done, put-as, put-long, part-back, back}
 use Rattle.decimal.specs.Decimal.{decimal}
 use Rattle.decimal.proofs.Laws.{decimal-one, decimal-short}
 use Rattle.program.specs.declared.Program.{Program}
 use Rattle.program.specs.Clauses.{clauseOf}
 use Rattle.program.specs.Names.{place, nameAt, namesOf}
-use Rattle.program.specs.Valid.{valid}
-use Rattle.program.proofs.Validity.{valid-names}
 use Rattle.program.specs.Values.{valueIn, clauseValue, clauseValues, wordValues}
 use Rattle.writer.specs.Lines.{firstOf}
-use Rattle.writer.proofs.Lines.{Valued, valued-start, valued-more, valued-done, clause-wrote, clause-room}
+use Rattle.writer.proofs.Lines.{Valued, valued-more, clause-wrote, clause-room}
 use Rattle.text.specs.Lines.{lineOf, namesLine, valuesLine}
 use Rattle.search.specs.declared.Outcome.{Outcome}
 use Rattle.search.specs.declared.Outcome.the-variants as ended
-use Rattle.search.specs.declared.SearchAnswer.{SearchAnswer}
-use Rattle.search.specs.Tree.{Node, hits}
-use Rattle.search.specs.Answer.{answer, overfull, fullAt, runAnswer, leafOf, nodesOf, answerOf, exitOf, listed, Searches}
-use Rattle.search.proofs.Runs.{accepted, same-places}
 use Rattle.reporting.specs.Lines.{byte, tailText, bothText, refusedWord, outcomeWord, numbered, refusedLine, lastLine, modelLines, listing}
 
 -- ---- one byte

@@ -1,9 +1,8 @@
 -- Demand 3 of any two runs over one valid table. Assumes nothing.
 use mathlib.Core.Path.{_≡_, refl, sym, ap, ap₂, _∙_, subst}
-use mathlib.Core.Logic.{_↔_, inl, inr}
 use mathlib.Core.Bool.{Bool, true, false, cond, not}
-use mathlib.Core.List.{List, [], _∷_, _++_}
-use Prim.Native.Nat.{ℕ, zero, suc, _≤_, _<_, min}
+use mathlib.Core.List.{List, [], _∷_}
+use Prim.Native.Nat.{ℕ, _≤_, _<_, min}
 use native.Mathlib.Omega.{arith}
 use lib.Dec.{eqb, leb, ltb}
 use lib.ListN.{length, take, drop, length-take}
@@ -16,7 +15,6 @@ use Rattle.program.specs.declared.Program.{Program}
 use Rattle.program.specs.Clauses.{clauses}
 use Rattle.program.specs.Valid.{valid}
 use Rattle.program.specs.Refusals.{lowest as lowestOf}
-use Rattle.semantics.specs.Interpretations.{models}
 use Rattle.stable.proofs.Decides as decides
 use Rattle.stages.specs.Run.{crowded}
 use Rattle.search.specs.declared.Outcome.{Outcome}

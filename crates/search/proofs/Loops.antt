@@ -1,17 +1,17 @@
 -- What the loops over a table's clauses find, at a node and at a leaf. Assumes nothing.
-use mathlib.Core.Path.{_≡_, refl, sym, ap, ap₂, _∙_, fun-ext}
-use mathlib.Core.Bool.{Bool, true, false, cond, _&&_, _||_, and-false}
+use mathlib.Core.Path.{_≡_, refl, sym, ap, _∙_, fun-ext}
+use mathlib.Core.Bool.{Bool, true, false, _&&_, and-false}
 use mathlib.Core.Logic.{⊎-elim}
-use mathlib.Core.List.{List, [], _∷_}
+use mathlib.Core.List.{List}
 use Prim.Native.Nat.{ℕ, zero, suc, _+_, _-_, _*_, _%_, _^_, _≤_, _<_}
-use native.Mathlib.Nat.{one-mul, zero-add, add-zero, add-suc, sub-zero}
+use native.Mathlib.Nat.{one-mul, add-zero, add-suc}
 use native.Mathlib.Numerals.{add-one}
 use native.Mathlib.Omega.{arith}
 use lib.Dec.{lit<, eqb, eqb·suc-zero}
 use lib.Bits.{bitAnd, bitOr, and-mod, and-zero-l, and-zero-r, and-le-l, and-le-r, or-zero-l, or-add-and}
 use lib.Pow.{shl-exact}
 use borrow.Author.Tests.{eqb-true, eqb-false, eq-eqb, ne-eqb}
-use Rattle.sets.specs.Lists.{some, upFrom, onward, tabulate}
+use Rattle.sets.specs.Lists.{some, upFrom, onward}
 use Rattle.sets.specs.Words.{Inside, inside, apart}
 use Rattle.sets.proofs.Tests.{dec}
 use Rattle.sets.proofs.Lists.{Lacks, lacks-start, lacks-not, lacks-more, lacks-done, onward-start}

@@ -2,7 +2,7 @@
 use mathlib.Core.Path.{_≡_, refl, sym, ap, _∙_}
 use mathlib.Core.Bool.{Bool, true, false, cond, not, _&&_, _||_, and-false}
 use mathlib.Core.List.{List, [], _∷_, _++_}
-use Prim.Native.Nat.{ℕ, zero, suc, _+_, _-_, _*_, _/_, _%_, _^_, _≤_, _<_}
+use Prim.Native.Nat.{ℕ, zero, suc, _+_, _-_, _*_, _/_, _%_, _^_, _<_}
 use native.Mathlib.Nat.{pow-suc, add-zero, mod-one, mod-mod, mod-lt, add-mod-right, zero-mod}
 use native.Mathlib.Omega.{arith}
 use lib.Dec.{eqb, eqb·suc-zero}
@@ -10,10 +10,10 @@ use lib.Pow.{mod-mod-pow, pow-pos, ones-lt, split}
 use lib.Bits.{bitAnd, and-block, and-zero-l, and-zero-r, and-mask}
 use lib.ListN.{length, length-append}
 use borrow.Author.Tests.{eqb-true, eq-eqb}
-use Rattle.sets.specs.Lists.{_∈_, some, sift, upFrom, tabulate, below}
-use Rattle.sets.specs.Words.{Inside, Apart, inside, apart}
-use Rattle.sets.proofs.Tests.{dec, clash, both-true, and-is-true}
-use Rattle.sets.proofs.Lists.{some-in, upFrom-add, upFrom-in, sift-append, sift-none}
+use Rattle.sets.specs.Lists.{some, sift, upFrom, tabulate, below}
+use Rattle.sets.specs.Words.{inside, apart}
+use Rattle.sets.proofs.Tests.{clash, both-true, and-is-true}
+use Rattle.sets.proofs.Lists.{upFrom-add, upFrom-in, sift-append, sift-none}
 use Rattle.program.specs.Clauses.{Clause}
 use Rattle.semantics.specs.Interpretations.{reduct, isModel, violates, leastSmaller, isStable, models}
 use Rattle.stable.proofs.Checking.{model-cons}

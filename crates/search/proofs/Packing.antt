@@ -1,16 +1,15 @@
 -- The clauses of a table, packed into one array. Assumes nothing.
-use mathlib.Core.Path.{_≡_, refl, sym, ap, _∙_}
+use mathlib.Core.Path.{_≡_, _∙_}
 use mathlib.Core.Logic.{_⊎_, ⊎-elim}
 use mathlib.Core.List.{List}
-use Prim.Native.Nat.{ℕ, suc, _+_, _≤_, _<_}
-use native.Mathlib.Nat.{eq-or-lt-of-le}
+use Prim.Native.Nat.{ℕ, _+_, _≤_, _<_}
 use native.Mathlib.Omega.{arith}
 use lib.ListN.{length, getD, set, replicate, length-set, length-replicate}
 use lib.Seq.{getD-set-same, getD-set-other}
 use Rattle.sets.specs.Lists.{tabulate}
 use Rattle.sets.proofs.Tests.{same?}
 use Rattle.sets.proofs.Lists.{upFrom-ext}
-use Rattle.program.specs.Clauses.{Clause, clauseOf, clauseAt, rowsOf}
+use Rattle.program.specs.Clauses.{clauseAt, rowsOf}
 use Rattle.search.specs.Packed.{packedAt, packedRows, Packs}
 
 -- the clauses below i are packed

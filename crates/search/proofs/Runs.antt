@@ -2,7 +2,7 @@
 use mathlib.Core.Path.{_≡_, refl, sym, ap, _∙_}
 use mathlib.Core.Bool.{Bool, true, false, cond, not}
 use mathlib.Core.Logic.{_↔_, _⊎_, ⊎-elim}
-use mathlib.Core.List.{List, [], _∷_, _++_}
+use mathlib.Core.List.{List, []}
 use Prim.Native.Nat.{ℕ, suc, _+_, _-_, _*_, _%_, _^_, _≤_, _<_}
 use native.Mathlib.Omega.{arith}
 use lib.Dec.{eqb, ltb}
@@ -23,7 +23,7 @@ use Rattle.semantics.specs.Interpretations.{rulesOf, isStable, models}
 use Rattle.stable.proofs.Decides.{stable-PStable, PStable-stable}
 use Rattle.search.specs.declared.Outcome.the-variants.{Complete, Full, Spent, Refused}
 use Rattle.search.specs.declared.SearchAnswer.{SearchAnswer}
-use Rattle.search.specs.Tree.{Node, Dead, dead, tree, nodeCount, isStableLeaf, hits, stableLeaves}
+use Rattle.search.specs.Tree.{Node, Dead, dead, tree, nodeCount, hits, stableLeaves}
 use Rattle.search.specs.Answer.{answer, overfull, fullAt, runAnswer, listing, runExit, leafOf, nodesOf, refusal, answerOf, exitOf, listed, refusedBy, Searches, Ends}
 use Rattle.search.specs.Packed.{packedRows, Packs}
 use Rattle.search.proofs.Packing.{packed-rows}

@@ -1,17 +1,13 @@
 -- Document 01's two counts of nodes, and the runs around them, computed. Assumes nothing.
 use mathlib.Core.Path.{_≡_, refl}
 use mathlib.Core.List.{List, [], _∷_}
-use Prim.Native.Nat.{ℕ}
-use lib.ListN.{length}
-use Rattle.sets.specs.Lists.{every, some, sift, below}
-use Rattle.sets.specs.Least.{least}
+use Rattle.sets.specs.Lists.{some}
 use Rattle.program.specs.Clauses.{Clause}
 use Rattle.program.specs.Values.{wordOf, clauseOfValues}
 use Rattle.semantics.specs.Books.{book, ⟨_·_⟩, clausesOf}
-use Rattle.semantics.specs.Interpretations.{isStable}
 use Rattle.search.specs.declared.Outcome.the-variants.{Complete, Full, Spent}
-use Rattle.search.specs.Tree.{dead, nodes, tree, nodeCount, isStableLeaf, hits}
-use Rattle.search.specs.Answer.{answer, overfull, fullAt, runAnswer, listing, runExit}
+use Rattle.search.specs.Tree.{dead, nodes, tree, nodeCount, isStableLeaf}
+use Rattle.search.specs.Answer.{answer, runAnswer, listing, runExit}
 
 -- fell due: 1 0 / 2 0 / 16 1
 abbrev fell : List Clause

@@ -1,14 +1,13 @@
 -- A p-stable word has no literal that no clause supports. Assumes nothing.
 use mathlib.Core.Path.{_≡_, refl, sym, ap, _∙_}
-use mathlib.Core.Bool.{Bool, true, false, cond, _&&_}
-use mathlib.Core.Logic.{_⊎_, inl, inr, ⊎-elim}
+use mathlib.Core.Bool.{true, false}
+use mathlib.Core.Logic.{_⊎_, ⊎-elim}
 use mathlib.Core.List.{List, [], _∷_}
 use Prim.Native.Nat.{ℕ, zero, suc, _+_, _-_, _*_, _/_, _%_, _^_, _≤_}
 use native.Mathlib.Nat.{mod-self, eq-zero-or-pos}
 use native.Mathlib.Omega.{arith}
-use lib.Dec.{eqb}
 use lib.Bits.{bitAnd, bitOr, and-mask}
-use borrow.Author.Tests.{not-true, eqb-true, eqb-false, eq-eqb}
+use borrow.Author.Tests.{not-true, eqb-true, eq-eqb}
 use Rattle.sets.specs.Lists.{every, sift}
 use Rattle.sets.specs.Words.{digit, Inside, Apart, inside, apart}
 use Rattle.sets.proofs.Tests.{dec, clash, both-true, and-is-true, same?}

@@ -1,16 +1,16 @@
 -- Laws of digits, and what the tests on words say digit by digit. Assumes nothing.
-use mathlib.Core.Path.{_≡_, refl, sym, ap, ap₂, _∙_, subst, fun-ext}
-use mathlib.Core.Logic.{_↔_, _⊎_, inl, inr, ⊎-elim}
-use mathlib.Core.Bool.{Bool, true, false, cond, not, _&&_, _||_}
+use mathlib.Core.Path.{_≡_, refl, sym, ap, _∙_, subst, fun-ext}
+use mathlib.Core.Logic.{_↔_, _⊎_, ⊎-elim}
+use mathlib.Core.Bool.{Bool, true, false, cond, _&&_, _||_}
 use Prim.Native.Nat.{ℕ, zero, suc, _+_, _-_, _*_, _/_, _%_, _^_, _≤_, _<_, min, max}
 use native.Mathlib.Nat.{eq-zero-or-pos, pow-suc, div-one}
 use native.Mathlib.Numerals.{one-add}
 use lib.Pow.{shr-shr, field, mod-mod-pow}
 use native.Mathlib.Omega.{arith}
-use lib.Dec.{T, eqb, eqb→eq, T-not, not-T}
+use lib.Dec.{T, eqb, eqb→eq}
 use lib.Bits.{bitAnd, bitOr, and-step, or-step, and-comm, and-le-r}
 use borrow.Author.Tests.{eqb-true, eqb-false, eq-eqb, ne-eqb}
-use Rattle.sets.specs.Words.{Set, _⊑_, digit, bit, Inside, Apart, inside, apart, meets}
+use Rattle.sets.specs.Words.{Set, _⊑_, digit, bit, Inside, Apart, inside}
 use Rattle.sets.proofs.Tests.{dec, lt-or-ge, true-T, not-T-false, T-ext, T-and, T-and-l, T-and-r}
 
 -- ---- digits
@@ -106,9 +106,6 @@ bit-digit w i t = eqb→eq (digit i w) 1 t
 pub digit-bit : (w i : ℕ) → digit i w ≡ 1 → T (bit w i)
 unfolding bit
 digit-bit w i e = true-T _ (eq-eqb (digit i w) 1 e)
-
-pub digit-not : (w i : ℕ) → (T (bit w i) → ⊥) → digit i w ≡ 0
-digit-not w i f = ⊎-elim (λ e. e) (λ p. absurd (f (digit-bit w i (omega (arith, digit-lt i w))))) (eq-zero-or-pos (digit i w))
 
 -- a is inside b exactly where each bit of a is in b
 pub inside-bits : (a b : ℕ) → Inside a b ↔ (bit a ⊑ bit b)

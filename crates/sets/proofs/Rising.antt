@@ -3,11 +3,11 @@ use mathlib.Core.Path.{_≡_, refl, sym, ap, ap₂, _∙_, subst}
 use mathlib.Core.Logic.{_⊎_, inl, inr, ⊎-elim}
 use mathlib.Core.Bool.{Bool, true, false, cond}
 use mathlib.Core.List.{List, [], _∷_, _++_}
-use Prim.Native.Nat.{ℕ, zero, suc, _+_, _≤_, _<_, min}
+use Prim.Native.Nat.{ℕ, zero, suc, _+_, _≤_}
 use native.Mathlib.Omega.{arith}
-use lib.ListN.{length, take, length-take}
+use lib.ListN.{length, take}
 use lib.Seq.{take-append-seam, take-take, take-all, length-take-le}
-use Rattle.sets.specs.Lists.{_∈_, Each, sift, upFrom, tabulate, below, Rising, Begins}
+use Rattle.sets.specs.Lists.{_∈_, sift, upFrom, tabulate, below, Rising, Begins}
 use Rattle.sets.proofs.Tests.{lt-or-ge}
 use Rattle.sets.proofs.Lists.{sift-out, upFrom-in}
 
@@ -70,10 +70,6 @@ begins-both a b c p q h = ap (take (length a)) (sym q) ∙ take-take (length a) 
 pub begins-same : (a b c : List ℕ) → Begins a c → Begins b c → length a ≡ length b → a ≡ b
 unfolding Begins
 begins-same a b c p q e = sym p ∙ ap (λ n. take n c) e ∙ q
-
-pub begins-all : (a b : List ℕ) → Begins a b → length b ≤ length a → a ≡ b
-unfolding Begins
-begins-all a b h l = sym h ∙ take-all (length a) b l
 
 -- a first part of a rising list rises
 take-in : (n : ℕ) (l : List ℕ) (x : ℕ) → x ∈ take n l → x ∈ l

@@ -1,6 +1,6 @@
 -- Laws of tests. Assumes nothing.
-use mathlib.Core.Path.{_≡_, refl, sym, ap, _∙_, subst}
-use mathlib.Core.Bool.{Bool, true, false, cond, not, _&&_, _||_, true≢false, false≢true}
+use mathlib.Core.Path.{_≡_, refl, sym, _∙_, subst}
+use mathlib.Core.Bool.{Bool, true, false, not, _&&_, _||_, true≢false, false≢true}
 use mathlib.Core.Logic.{_⊎_, inl, inr, ⊎-elim}
 use Prim.Native.Nat.{ℕ, _≤_, _<_}
 use lib.Dec.{T, eqb, ltb}
@@ -53,9 +53,6 @@ true-T b e = subst T (sym e) tt
 pub not-T-false : (b : Bool) → (T b → ⊥) → b ≡ false
 not-T-false true f = absurd (f tt)
 not-T-false false f = refl
-
-pub false-not-T : (b : Bool) → b ≡ false → T b → ⊥
-false-not-T b e t = subst T e t
 
 pub T? : (b : Bool) → T b ⊎ (T b → ⊥)
 T? true = inl tt

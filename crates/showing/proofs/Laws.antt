@@ -5,7 +5,7 @@ use mathlib.Core.List.{List, _++_}
 use Prim.Native.Nat.{ℕ, _+_, _/_, _%_, _≤_, _<_}
 use native.Mathlib.Omega.{arith}
 use lib.ListN.{length, getD, set, length-append}
-use Rattle.sets.specs.Lists.{upFrom, tabulate}
+use Rattle.sets.specs.Lists.{tabulate}
 use Rattle.sets.proofs.Lists.{upFrom-ext, getD-tabulate}
 use Rattle.lists.specs.Bytes.{Wrote}
 use Rattle.lists.proofs.Filling.{Filled, fill-more}

@@ -2,9 +2,9 @@
 use mathlib.Core.Path.{_≡_, refl, sym, ap, _∙_}
 use mathlib.Core.Bool.{Bool, true, false, cond, not, _&&_, _||_, and-false}
 use mathlib.Core.List.{List, [], _∷_, map}
-use Prim.Native.Nat.{ℕ, zero, suc, _+_, _≤_, _<_}
+use Prim.Native.Nat.{ℕ, suc, _+_, _≤_, _<_}
 use native.Mathlib.Omega.{arith}
-use lib.Dec.{eqb, ltb, eqb·zero-suc, eqb·suc-suc}
+use lib.Dec.{eqb, eqb·zero-suc, eqb·suc-suc}
 use lib.Bits.{bitAnd, and-le-r, and-zero-l}
 use lib.ListN.{length, getD}
 use borrow.Author.Tests.{lt-ltb, le-ltb, eq-eqb, ne-eqb}
@@ -14,7 +14,6 @@ use Rattle.sets.specs.Least.{least}
 use Rattle.sets.proofs.Least.{Searched, miss, leap, least-suc}
 use Rattle.program.specs.Clauses.{Clause, clauseOf, clauseAt, rowsOf, noClause}
 use Rattle.program.proofs.Clauses.{length-rows, row-at}
-use Rattle.stable.specs.declared.Checked.{Checked}
 use Rattle.stable.specs.declared.Checked.the-variants.{Violated, Smaller, Stable}
 use Rattle.semantics.specs.Interpretations.{satisfies, reduct, isModel, violates, violatedAt, smaller, leastSmaller}
 use Rattle.stable.specs.Check.{firstViolated, verdict}

@@ -1,14 +1,14 @@
 -- `isStable` decides Definition 3.1, and `models` lists what it holds of. Assumes nothing.
-use mathlib.Core.Path.{_≡_, refl, sym, ap, _∙_, subst}
+use mathlib.Core.Path.{_≡_, sym, ap, _∙_, subst}
 use mathlib.Core.Logic.{_↔_, _⊎_, ⊎-elim}
-use mathlib.Core.Bool.{Bool, true, false, _&&_}
+use mathlib.Core.Bool.{true}
 use mathlib.Core.List.{List}
-use Prim.Native.Nat.{ℕ, _*_, _^_, _≤_, _<_}
+use Prim.Native.Nat.{ℕ, _*_, _^_, _<_}
 use native.Mathlib.Nat.{eq-or-lt-of-le}
 use native.Mathlib.Omega.{arith}
-use lib.Dec.{T, eqb}
+use lib.Dec.{eqb}
 use borrow.Author.Tests.{eqb-true, eq-eqb}
-use Rattle.sets.specs.Lists.{_∈_, Rising, sift, below}
+use Rattle.sets.specs.Lists.{_∈_, Rising, below}
 use Rattle.sets.specs.Words.{Set, _⊑_, bit, Inside, inside}
 use Rattle.sets.specs.Least.{least}
 use Rattle.sets.proofs.Tests.{clash, both-true, and-is-true}

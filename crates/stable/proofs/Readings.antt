@@ -1,19 +1,19 @@
 -- Satisfaction and reduct over words are those over sets of literals. Assumes nothing.
-use mathlib.Core.Path.{_≡_, refl, sym, ap, ap₂, _∙_, subst, fun-ext}
+use mathlib.Core.Path.{_≡_, refl, sym, ap, _∙_, subst, fun-ext}
 use mathlib.Core.Logic.{_↔_, _⊎_, inl, inr, ⊎-elim}
 use mathlib.Core.Bool.{Bool, true, false, not, _&&_, _||_}
-use mathlib.Core.List.{List, [], _∷_, map}
+use mathlib.Core.List.{List, map}
 use Prim.Native.Nat.{ℕ}
-use lib.Dec.{T, eqb}
+use lib.Dec.{T}
 use lib.Bits.{bitAnd}
-use borrow.Author.Tests.{eqb-true, eqb-false, eq-eqb, ne-eqb}
-use Rattle.sets.specs.Lists.{_∈_, every, sift}
-use Rattle.sets.specs.Words.{Set, _⊑_, bit, Inside, Apart, inside, apart, meets}
+use borrow.Author.Tests.{eqb-true, eqb-false, eq-eqb}
+use Rattle.sets.specs.Lists.{sift}
+use Rattle.sets.specs.Words.{bit, Inside, Apart, inside, apart}
 use Rattle.sets.proofs.Tests.{dec, clash}
 use Rattle.sets.proofs.Lists.{in-map, map-in, every-each, each-every, sift-in, sift-out}
 use Rattle.sets.proofs.Digits.{inside-bits, meets-bits, bit-zero}
 use Rattle.program.specs.Clauses.{Clause, clauseOf}
-use Rattle.semantics.specs.Definitions.{Rule, Head, Body, Satisfies, Model, Reduct, positive, _⊨_, _⊨not_}
+use Rattle.semantics.specs.Definitions.{Rule, Satisfies, Model, Reduct, positive, _⊨_, _⊨not_}
 use Rattle.semantics.specs.Interpretations.{ruleOf, rulesOf, satisfies, reduct, isModel}
 use Rattle.stable.proofs.FourValues.{holds-member, not-absent}
 

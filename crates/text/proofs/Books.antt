@@ -1,8 +1,8 @@
 -- Text to names and rows, and back. Assumes nothing.
 use mathlib.Core.Path.{_≡_, refl, sym, ap, ap₂, _∙_}
-use mathlib.Core.Bool.{Bool, true, false, not, _&&_}
+use mathlib.Core.Bool.{true, false}
 use mathlib.Core.List.{List, [], _∷_, _++_, map, flatMap, tail, append-assoc}
-use Prim.Native.Nat.{ℕ, suc, _+_, _-_, _≤_, _<_}
+use Prim.Native.Nat.{ℕ, suc, _+_, _-_, _≤_}
 use native.Mathlib.Omega.{arith}
 use lib.Dec.{eqb}
 use lib.ListN.{length, getD, length-map}
@@ -17,11 +17,11 @@ use Rattle.decimal.specs.Decimal.{decimal}
 use Rattle.program.specs.Names.{isName}
 use Rattle.text.specs.Lines.{firstLine, lineOf, namesLine, valuesLine, names, clauseLines, valueOf, row}
 use Rattle.text.specs.Render.{bookText}
-use Rattle.text.specs.Refusals.{wrongSize, unended, isValue, lineHolds, clauseBroken, refusal}
+use Rattle.text.specs.Refusals.{wrongSize, unended, isValue, lineHolds, refusal}
 use Rattle.text.proofs.Values.{isRow, isSmall, plainLine, items-are, line-back, values-back, small-values, decimals-isnt}
 use Rattle.text.proofs.Names.{name-isnt}
 use Rattle.text.proofs.Tests.{size-some}
-use Rattle.text.proofs.Fits.{NoneOf, clear, Fit, fit}
+use Rattle.text.proofs.Fits.{clear, fit}
 
 -- the text by its lines, each without the byte that ends it
 lines-of : (vss : List (List ℕ)) → flatMap valuesLine vss ≡ close 10 (map plainLine vss)

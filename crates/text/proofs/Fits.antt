@@ -1,20 +1,19 @@
 -- What the tests have shown of an accepted text, and the reader's answer. Assumes nothing.
-use mathlib.Core.Path.{_≡_, refl, sym, ap, ap₂, _∙_}
-use mathlib.Core.Bool.{Bool, true, false, cond, not, _&&_, _||_}
+use mathlib.Core.Path.{_≡_, refl, sym, ap, _∙_}
+use mathlib.Core.Bool.{Bool, true, false, cond, _&&_}
 use mathlib.Core.List.{List, [], _∷_, map, tail}
-use Prim.Native.Nat.{ℕ, zero, suc, _+_, _-_, _≤_, _<_}
+use Prim.Native.Nat.{ℕ, suc, _+_, _-_, _≤_}
 use native.Mathlib.Omega.{arith}
-use lib.Dec.{eqb, leb, ltb}
+use lib.Dec.{leb}
 use lib.ListN.{length, take, drop, length-map}
 use borrow.Author.Tests.{eq-eqb, ne-eqb, not-false, leb-true, ltb-false}
-use Rattle.sets.specs.Lists.{every, some}
+use Rattle.sets.specs.Lists.{every}
 use Rattle.sets.proofs.Tests.{both-true}
-use Rattle.lists.specs.Bytes.{padded, distinct, pieces, ended, endOf, count, EndsAt, Counts}
+use Rattle.lists.specs.Bytes.{padded, distinct, pieces, ended, endOf, EndsAt, Counts}
 use Rattle.lists.proofs.Pieces.{length-ended, end-le}
 use Rattle.program.specs.Names.{isName}
 use Rattle.program.specs.Refusals.{lowest}
 use Rattle.program.specs.declared.Program.{Program}
-use Rattle.text.specs.declared.Read.{Read}
 use Rattle.text.specs.declared.Verdict.the-variants.{Refused, Accepted}
 use Rattle.text.specs.Lines.{names, clauseLines, row}
 use Rattle.text.specs.Tables.{wordBy, placed, tableOf, zeroTable}

@@ -1,11 +1,11 @@
 -- The round trip, both ways: what is read is what is written. Assumes nothing.
-use mathlib.Core.Path.{_≡_, refl, sym, ap, ap₂, _∙_}
-use mathlib.Core.Bool.{true, false}
+use mathlib.Core.Path.{_≡_, sym, ap, ap₂, _∙_}
+use mathlib.Core.Bool.{true}
 use mathlib.Core.Logic.{_↔_, ⊎-elim}
 use mathlib.Core.List.{List, map}
 use Prim.Native.Nat.{ℕ}
 use lib.Dec.{eqb}
-use borrow.Author.Tests.{eq-eqb, ne-eqb, eqb-true, eqb-false}
+use borrow.Author.Tests.{eq-eqb, eqb-true}
 use Rattle.sets.proofs.Tests.{dec}
 use Rattle.program.specs.declared.Program.{Program}
 use Rattle.program.specs.Names.{namesOf}
@@ -17,7 +17,7 @@ use Rattle.text.specs.Render.{bookText, valuesOf, render}
 use Rattle.text.specs.Refusals.{refusal}
 use Rattle.text.specs.Reading.{refusedBy, programOf, readOf, IsAccepted}
 use Rattle.text.proofs.Books.{text-back, names-again, rows-again}
-use Rattle.text.proofs.Tables.{Good, names-of-table, values-of-table, table-back, good-table, valid-with, sized-with}
+use Rattle.text.proofs.Tables.{names-of-table, values-of-table, table-back, good-table, valid-with, sized-with}
 use Rattle.text.proofs.Accepts.{accept-text, good-read}
 
 -- ---- the verdict is the refusal's number, and an accepted text comes with its table

@@ -1,15 +1,15 @@
 -- Tables to names and rows, and back. Assumes nothing.
 use mathlib.Core.Path.{_≡_, refl, sym, ap, ap₂, _∙_}
-use mathlib.Core.Bool.{Bool, true, false, cond, not, _&&_, _||_}
+use mathlib.Core.Bool.{Bool, true, false, cond, not, _&&_}
 use mathlib.Core.Logic.{⊎-elim}
 use mathlib.Core.List.{List, [], _∷_, _++_, map, flatMap, append-assoc}
 use Prim.Native.Nat.{ℕ, zero, suc, _+_, _-_, _*_, _/_, _%_, _^_, _≤_, _<_}
 use native.Mathlib.Nat.{add-zero, zero-add, zero-div, div-div-eq-div-mul, pow-suc}
 use native.Mathlib.Numerals.{add-one}
 use native.Mathlib.Omega.{arith}
-use lib.Dec.{eqb, leb, ltb}
-use lib.ListN.{length, getD, take, drop, replicate, length-append, length-drop, length-map, List·getD-map}
-use lib.Seq.{length-take-le, take-at, drop-at, take-add, drop-drop, drop-cons, getD-drop, drop-append-seam}
+use lib.Dec.{eqb, ltb}
+use lib.ListN.{length, getD, take, drop, replicate, length-map, List·getD-map}
+use lib.Seq.{take-at, drop-at, take-add, drop-drop, drop-cons, getD-drop}
 use borrow.Author.Tests.{eqb-true, eq-eqb, ltb-true, lt-ltb, le-leb}
 use Rattle.sets.specs.Lists.{every, some, upFrom, tabulate}
 use Rattle.sets.proofs.Tests.{dec, clash, both-true, both-false}
@@ -17,7 +17,7 @@ use Rattle.sets.proofs.Lists.{length-upFrom, map-upFrom}
 use Rattle.lists.specs.Bytes.{index, same, distinct, padded}
 use Rattle.lists.proofs.Loops.{same-true, same-self}
 use Rattle.lists.proofs.Pieces.{index-le}
-use Rattle.lists.proofs.Padding.{padded-long, padded-back, padded-tail, zeros-are, zeros-pass}
+use Rattle.lists.proofs.Padding.{padded-long, padded-back, padded-tail, zeros-are}
 use Rattle.program.specs.declared.Program.{Program}
 use Rattle.program.specs.Clauses.{Clause, clauseOf, clauseAt, rowsOf, rows}
 use Rattle.program.specs.Names.{isName, place, nameAt, namesOf}

@@ -3,18 +3,18 @@ use mathlib.Core.Path.{_≡_, refl, sym, ap, ap₂, _∙_}
 use mathlib.Core.Bool.{Bool, true, false, cond, not, _&&_, _||_}
 use mathlib.Core.Logic.{⊎-elim}
 use mathlib.Core.List.{List, [], _∷_, tail}
-use Prim.Native.Nat.{ℕ, zero, suc, _+_, _-_, _*_, _≤_, _<_}
+use Prim.Native.Nat.{ℕ, suc, _+_, _-_, _≤_, _<_}
 use native.Mathlib.Omega.{arith}
 use lib.Dec.{eqb, leb, ltb}
 use lib.ListN.{length, getD, take, drop}
 use borrow.Author.Tests.{eq-eqb, eqb-true, eqb-false, le-leb, not-false}
 use Rattle.sets.specs.Lists.{every, some}
 use Rattle.sets.proofs.Tests.{dec, clash}
-use Rattle.lists.specs.Bytes.{distinct, pieces, ended, index, endOf, count, EndsAt, Counts}
+use Rattle.lists.specs.Bytes.{distinct, pieces, ended, index, endOf, EndsAt, Counts}
 use Rattle.lists.proofs.Pieces.{line-step, length-ended, length-pieces}
 use Rattle.program.specs.Names.{isName}
 use Rattle.program.specs.Refusals.{lowest}
-use Rattle.text.specs.Lines.{lines, items, firstLine, names, clauseLines}
+use Rattle.text.specs.Lines.{firstLine, names, clauseLines}
 use Rattle.text.specs.Refusals.{wrongSize, unended, hasForeign, tooManyLines, namesBroken, namesEqual, isValue, lineHolds, clauseBroken, isZero, onlyZeros, refusal}
 
 -- the text has a line

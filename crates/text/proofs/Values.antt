@@ -1,6 +1,6 @@
 -- The value that an item is the decimal text of, and the lines of values. Assumes nothing.
-use mathlib.Core.Path.{_≡_, refl, sym, ap, ap₂, _∙_}
-use mathlib.Core.Bool.{Bool, true, false, not, _&&_}
+use mathlib.Core.Path.{_≡_, refl, ap, ap₂, _∙_}
+use mathlib.Core.Bool.{Bool, true, not, _&&_}
 use mathlib.Core.List.{List, [], _∷_, map}
 use Prim.Native.Nat.{ℕ, _+_, _≤_, _<_}
 use native.Mathlib.Omega.{arith}
@@ -9,11 +9,11 @@ use lib.ListN.{length}
 use borrow.Author.Tests.{le-leb, leb-true, ne-eqb, ltb-true, lt-ltb}
 use Rattle.sets.specs.Lists.{every}
 use Rattle.sets.proofs.Tests.{both-true}
-use Rattle.lists.specs.Bytes.{join, pieces, same}
+use Rattle.lists.specs.Bytes.{join, pieces}
 use Rattle.lists.proofs.Pieces.{pieces-join, join-pieces}
 use Rattle.lists.proofs.Padding.{isnt, all-free}
 use Rattle.decimal.specs.Decimal.{decimal}
-use Rattle.decimal.proofs.Laws.{decimal-one, decimal-short, decimal-injective, decimal-every, number-hit, number-back, number-le}
+use Rattle.decimal.proofs.Laws.{decimal-one, decimal-short, decimal-every, number-hit, number-back}
 use Rattle.text.specs.Lines.{valueOf, row}
 use Rattle.text.specs.Refusals.{isValue, lineHolds}
 
@@ -25,10 +25,6 @@ value-hit i v h e = number-hit 63 i v (omega arith) e
 pub value-back : (i : List ℕ) → valueOf i ≤ 63 → decimal (valueOf i) ≡ i
 unfolding valueOf
 value-back i h = number-back 63 i h
-
-pub value-le : (i : List ℕ) → valueOf i ≤ 64
-unfolding valueOf
-value-le i = number-le 63 i
 
 pub value-text : (i : List ℕ) → isValue i ≡ true → decimal (valueOf i) ≡ i
 unfolding isValue

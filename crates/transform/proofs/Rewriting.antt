@@ -102,9 +102,6 @@ module _ (m : ℕ) (hs bs ns : List ℕ) (count : ℕ) (xs₀ ys₀ : List ℕ) 
             (epistemic m (s + standIns (record { head = x; body = y; naf = z })) (clausesFrom hs bs ns (k + 1) (count - (k + 1)))) cut,
       )
 
-      pub rewriting-small : (d : ℕ) → (d ≡ standIns (record { head = x; body = y; naf = z })) × (d ≤ 64) → s + d ≤ 64
-      rewriting-small d e = omega (arith, w .places, sum, e .0)
-
       pub rewriting-step : (r d : ℕ) (xs′ ys′ : List ℕ) → Emits (becomes m s (record { head = x; body = y; naf = z })) xs ys n xs′ ys′ r → (d ≡ standIns (record { head = x; body = y; naf = z })) × (d ≤ 64)
           → Rewriting m hs bs ns count xs₀ ys₀ (s + d) r (k + 1) xs′ ys′
       rewriting-step r d xs′ ys′ g e = record {

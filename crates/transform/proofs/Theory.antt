@@ -1,10 +1,10 @@
 -- The epistemic transform of a program of masks (000, Definition 3.5), and that it is the theory's. Assumes nothing.
-use Prim.Native.Nat.{ℕ, zero, suc, _+_, _^_, _≤_, _<_}
+use Prim.Native.Nat.{ℕ, suc, _+_, _^_, _≤_, _<_}
 use lib.Dec.{T, eqb, eqb→eq}
 use lib.ListN.{length, length-append}
 use mathlib.Core.Bool.{Bool, true, false, not, cond}
 use mathlib.Core.List.{List, [], _∷_, _++_, map, flatMap}
-use mathlib.Core.Logic.{_⊎_, inl, inr, ⊎-elim}
+use mathlib.Core.Logic.{_⊎_, inl, inr}
 use mathlib.Core.Path.{_≡_, refl, sym, ap, ap₂, _∙_, subst}
 use native.Mathlib.Decide.{ℕ-discrete}
 use native.Mathlib.Nat.{add-assoc}
@@ -23,7 +23,7 @@ use Rattle.program.specs.Clauses.{Clause}
 use Rattle.sets.proofs.Digits.{bit-zero, bit-small}
 use Rattle.sets.proofs.Rising.{rising-ext, sift-rising, below-rising}
 use Rattle.sets.proofs.Tests.{T?}
-use Rattle.sets.specs.Lists.{_∈_, Each, sift, below, Rising}
+use Rattle.sets.specs.Lists.{_∈_, Each, below, Rising}
 use Rattle.sets.specs.Words.{bit, mask}
 use Rattle.rising.proofs.Literals.{lit-in, lit-out, bits-rising}
 use Rattle.stages.proofs.Minimal.{wordRule}

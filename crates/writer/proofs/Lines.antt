@@ -1,25 +1,25 @@
 -- A line of items, written item by item, and lines one behind the other. Assumes nothing.
-use mathlib.Core.Path.{_≡_, refl, sym, ap, ap₂, _∙_}
-use mathlib.Core.Bool.{Bool, true, false, cond}
+use mathlib.Core.Path.{_≡_, refl, sym, ap, _∙_}
+use mathlib.Core.Bool.{true, false, cond}
 use mathlib.Core.Logic.{⊎-elim}
 use mathlib.Core.List.{List, [], _∷_, _++_, append-assoc, append-nil, map, flatMap}
-use Prim.Native.Nat.{ℕ, zero, suc, _+_, _-_, _*_, _≤_, _<_}
+use Prim.Native.Nat.{ℕ, _+_, _-_, _*_, _≤_, _<_}
 use native.Mathlib.Nat.{zero-add}
 use native.Mathlib.Omega.{arith}
 use lib.Dec.{ltb}
 use borrow.Author.Tests.{lt-ltb, le-ltb, ltb-true, ltb-false}
 use lib.ListN.{length, getD, take, drop, set, replicate, length-append, length-drop, length-take, length-replicate}
 use lib.Seq.{length-take-le, take-take}
-use Rattle.sets.specs.Lists.{upFrom, onward, tabulate}
+use Rattle.sets.specs.Lists.{onward, tabulate}
 use Rattle.sets.proofs.Tests.{dec}
 use Rattle.sets.proofs.Lists.{onward-start, onward-step, onward-done, length-tabulate, map-upFrom, upFrom-ext, getD-tabulate}
-use Rattle.lists.specs.Bytes.{join, led, index, over, padded, EndsAt, Wrote}
+use Rattle.lists.specs.Bytes.{join, led, index, padded, EndsAt, Wrote}
 use Rattle.lists.proofs.Pieces.{index-le}
 use Rattle.lists.proofs.Writing.{Put, put-start, put-step, put-byte, put-done, put-as, put-room, put-long, part-back, back, two-texts}
 use Rattle.lists.proofs.Padding.{over-padded}
 use Rattle.decimal.specs.Decimal.{decimal, Measures}
 use Rattle.program.specs.declared.Program.{Program}
-use Rattle.program.specs.Clauses.{Clause, clauseOf, clauseAt, rowsOf, rows}
+use Rattle.program.specs.Clauses.{Clause, clauseAt, rowsOf, rows}
 use Rattle.program.specs.Names.{place, nameAt, namesOf}
 use Rattle.program.specs.Values.{valueIn, clauseValue, clauseValues}
 use Rattle.program.specs.Refusals.{lowest}

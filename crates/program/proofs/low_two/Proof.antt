@@ -1,7 +1,6 @@
 -- `program::low_two` meets its contract. Assumes nothing.
 use native.Mathlib.Omega.{arith}
 use lib.Bits.{and-mask}
-use Rattle.program.proofs.Rules.{rules}
 use Rattle.program.proofs.low_two.Statement.{statement}
 use Rattle.program.proofs.low_two.Tie as tie
 

@@ -5,7 +5,6 @@ use native.Mathlib.Omega.{arith}
 use native.Mathlib.Nat.{pow-suc}
 use lib.Count.{leadingZeros, leading-top, leading-le}
 use Rattle.search.proofs.Loops.{one-shl}
-use Rattle.search.proofs.Rules.{rules}
 use Rattle.search.proofs.highest.Statement.{statement}
 use Rattle.search.proofs.highest.Tie as tie
 

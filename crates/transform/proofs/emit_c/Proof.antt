@@ -1,9 +1,6 @@
 -- `transform::emit_c` meets its contract. Assumes nothing.
 use Rattle.transform.proofs.Emit.{Walk}
-use Rattle.transform.specs.Emit.{oneB}
-use Rattle.transform.specs.Emit.{oneC}
 use Rattle.transform.specs.Emit.{eachC}
-use Rattle.transform.specs.Emit.{eachD}
 use Rattle.transform.proofs.Emitting.{emitting}
 use Rattle.transform.proofs.Emitting.{c-room}
 use Rattle.transform.proofs.Emit.{walk-place}

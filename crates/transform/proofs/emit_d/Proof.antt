@@ -1,8 +1,5 @@
 -- `transform::emit_d` meets its contract. Assumes nothing.
 use Rattle.transform.proofs.Emit.{Walk}
-use Rattle.transform.specs.Emit.{oneB}
-use Rattle.transform.specs.Emit.{oneC}
-use Rattle.transform.specs.Emit.{eachC}
 use Rattle.transform.specs.Emit.{eachD}
 use Rattle.transform.proofs.Emitting.{emitting}
 use Rattle.transform.proofs.Emitting.{d-room}

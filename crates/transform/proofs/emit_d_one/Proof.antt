@@ -1,12 +1,7 @@
 -- `transform::emit_d_one` meets its contract. Assumes nothing.
 use Rattle.transform.proofs.Emit.{Walk}
-use Rattle.transform.specs.Emit.{oneB}
-use Rattle.transform.specs.Emit.{oneC}
-use Rattle.transform.specs.Emit.{eachC}
-use Rattle.transform.specs.Emit.{eachD}
 use Rattle.transform.specs.Transform.{clauseD}
 use Rattle.transform.proofs.Emitting.{emitting}
-use Rattle.transform.proofs.Emit.{walk-literal}
 use Rattle.transform.proofs.Emit.{walk-place}
 use Rattle.transform.proofs.Emit.{walk-room}
 use Rattle.transform.proofs.emit_d_one.Statement.{statement}

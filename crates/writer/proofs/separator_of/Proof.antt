@@ -1,7 +1,6 @@
 -- `writer::separator_of` meets its contract. Assumes nothing.
 use borrow.Author.Tests.{lt-ltb, le-ltb}
 use Rattle.writer.specs.Lines.{separator}
-use Rattle.writer.proofs.Rules.{rules}
 use Rattle.writer.proofs.separator_of.Statement.{statement}
 use Rattle.writer.proofs.separator_of.Tie as tie
 
