@@ -104,6 +104,17 @@ fn agree(label: &[u8], what: &[u8], expected: u64, found: u64) -> bool {
     false
 }
 
+// Says what was found where another kind of answer was expected.
+fn wrong(label: &[u8], what: &[u8], found: u64) -> bool {
+    print(label);
+    print(b": ");
+    print(what);
+    print(b" ");
+    print_number(found);
+    print(b"\n");
+    false
+}
+
 // Whether two endings agree; where not, says so.
 fn agree_ending(label: &[u8], what: &[u8], expected: Ended, found: Ended) -> bool {
     let same = (expected.outcome == found.outcome) & (expected.written == found.written);
@@ -259,14 +270,18 @@ fn try_long(label: &[u8], p: Program, text: &[u8], out: &mut [u8]) -> bool {
             }
             agree_text(label, out, text)
         }
-        Written::Refused(number) => agree(label, b"writer refuses by", 0, number as u64),
+        Written::Refused(number) => wrong(label, b"writer refuses by", number as u64),
     }
 }
 
 // Whether the writer refuses by the number and writes nothing into `out`.
 fn try_refused(label: &[u8], p: Program, refusal: u64, out: &mut [u8]) -> bool {
     match writer::write_program(p, out) {
-        Written::Length(n) => agree(label, b"length, though refused,", 0, n as u64),
+        Written::Length(n) => wrong(
+            label,
+            b"writer takes a slice too short, or a forged table, with length",
+            n as u64,
+        ),
         Written::Refused(number) => {
             if !agree(label, b"writer refuses by", refusal, number as u64) {
                 return false;
