@@ -359,7 +359,7 @@ SINGLE = [
 
 
 def faulty(faults):
-    """A text with each of the faults 1 to 8 that is asked for; 6 and 5 share the names line."""
+    """A text with each of the faults 1 to 8 that is asked for, and with none that has a lower number than all of these."""
     names = ['a', 'b', 'c']
     if 6 in faults:
         names[2] = 'a'
@@ -382,11 +382,6 @@ def faulty(faults):
     return made
 
 
-def lowest_fault(faults):
-    """A book of more than 4,096 bytes in short lines has too many lines too, and a line with a foreign byte is no clause line."""
-    return min(faults)
-
-
 def refusals():
     for k, (number, made) in enumerate(SINGLE):
         yield f'single {k + 1}', made, number
@@ -394,7 +389,7 @@ def refusals():
     for size in (2, 3, 8):
         for faults in itertools.combinations(range(1, 9), size):
             k += 1
-            yield f'several {k}', faulty(faults), lowest_fault(faults)
+            yield f'several {k}', faulty(faults), min(faults)
 
 
 # ---- tables forged by hand: 0 the names, 1 a byte of a name, 2 the clauses, 3 to 5 a head, a body, a not-part
