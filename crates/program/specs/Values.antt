@@ -19,14 +19,34 @@ unfoldable pub clauseValue : Clause → ℕ → ℕ
 unfolding valueIn
 clauseValue c i = valueIn (c .head) i + 4 * valueIn (c .body) i + 16 * valueIn (c .naf) i
 
--- the word with these values, "name i (from 0) has bit 2i for itself and bit 2i+1 for its negation": that of atom 0 lowest; the clause with these
+-- the word with these values, "name i (from 0) has bit 2i for itself and bit 2i+1 for its negation": that of atom 0 lowest
 unfoldable pub wordOf : List ℕ → ℕ
 wordOf [] = 0
 wordOf (v ∷ vs) = v + 4 * wordOf vs
 
+-- the two bits of a value that count k and 2k
+unfoldable pub bitsOf : ℕ → ℕ → ℕ
+bitsOf k v = v / k % 4
+
+-- the word of those bits of a row's values
+unfoldable pub wordBy : ℕ → List ℕ → ℕ
+wordBy k vs = wordOf (map (bitsOf k) vs)
+
+-- "1: the name stands in the head; 2: its negation does"
+abbrev pub headOf : List ℕ → ℕ
+headOf vs = wordBy 1 vs
+
+-- "4: the name stands in the body; 8: its negation does"
+abbrev pub bodyOf : List ℕ → ℕ
+bodyOf vs = wordBy 4 vs
+
+-- "16: "not name" stands in the body; 32: "not negation" does"
+abbrev pub nafOf : List ℕ → ℕ
+nafOf vs = wordBy 16 vs
+
+-- "A clause is thus head, body and not-part": the clause with these values
 unfoldable pub clauseOfValues : List ℕ → Clause
-unfolding wordOf
-clauseOfValues vs = clauseOf (wordOf (map (λ v. v % 4) vs)) (wordOf (map (λ v. v / 4 % 4) vs)) (wordOf (map (λ v. v / 16 % 4) vs))
+clauseOfValues vs = clauseOf (headOf vs) (bodyOf vs) (nafOf vs)
 
 -- a word's values for n atoms; a clause's
 unfoldable pub wordValues : ℕ → ℕ → List ℕ

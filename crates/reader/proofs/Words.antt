@@ -16,8 +16,7 @@ use Rattle.lists.proofs.Pieces.{left, part, left-start, left-step, left-done, l
 use Rattle.lists.proofs.Writing.{Put, put-start, put-byte, put-done, put-as, put-room}
 use Rattle.lists.proofs.Padding.{over-padded}
 use Rattle.text.specs.Lines.{row, valueOf}
-use Rattle.program.specs.Values.{wordOf}
-use Rattle.text.specs.Tables.{bitsOf, wordBy}
+use Rattle.program.specs.Values.{wordOf, bitsOf, wordBy}
 use Rattle.text.specs.Refusals.{isValue, lineHolds}
 
 -- ---- a word

@@ -16,7 +16,8 @@ use Rattle.program.specs.Refusals.{lowest}
 use Rattle.program.specs.declared.Program.{Program}
 use Rattle.text.specs.declared.Verdict.the-variants.{Refused, Accepted}
 use Rattle.text.specs.Lines.{names, clauseLines, row}
-use Rattle.text.specs.Tables.{wordBy, placed, tableOf, zeroTable}
+use Rattle.program.specs.Values.{wordBy}
+use Rattle.text.specs.Tables.{placed, tableOf, zeroTable}
 use Rattle.text.specs.Refusals.{wrongSize, unended, hasForeign, tooManyLines, namesBroken, namesEqual, lineHolds, clauseBroken, onlyZeros, refusal}
 use Rattle.text.specs.Reading.{programOf, readOf}
 use Rattle.text.proofs.Tests.{HasLine, plain-line, both-lines, names-are, clause-lines-are, behind, names-count}

@@ -21,11 +21,11 @@ use Rattle.lists.proofs.Padding.{padded-long, padded-back, padded-tail, zeros-a
 use Rattle.program.specs.declared.Program.{Program}
 use Rattle.program.specs.Clauses.{Clause, clauseOf, clauseAt, rowsOf, rows}
 use Rattle.program.specs.Names.{isName, place, nameAt, namesOf}
-use Rattle.program.specs.Values.{isWord, valueIn, wordOf, clauseValue, clauseValues}
+use Rattle.program.specs.Values.{isWord, valueIn, wordOf, bitsOf, wordBy, clauseValue, clauseValues}
 use Rattle.program.specs.Valid.{zeroFrom, isPlace, namesValid, isClause, clausesValid, valid, Sized}
 use Rattle.program.proofs.Places.{place-long}
 use Rattle.program.proofs.Validity.{valid-names, valid-clauses, clause-below}
-use Rattle.text.specs.Tables.{bitsOf, wordBy, placed, tableOf}
+use Rattle.text.specs.Tables.{placed, tableOf}
 use Rattle.text.specs.Render.{valuesOf}
 use Rattle.text.proofs.Values.{isSmall, isRow}
 use Rattle.text.proofs.Names.{name-short, placed-long, index-name, trim}

@@ -7,7 +7,7 @@ use Rattle.sets.specs.Words.{mask}
 use Rattle.sets.specs.Least.{least}
 use Rattle.lists.specs.Bytes.{same}
 use Rattle.program.specs.Clauses.{Clause}
-use Rattle.program.specs.Values.{wordOf, clauseOfValues}
+use Rattle.program.specs.Values.{wordOf, clauseOfValues, wordBy, bitsOf}
 use Rattle.semantics.specs.Books.{Book, books, clausesOf, modelsOf}
 use Rattle.rising.specs.RisingSets.{insertInto, addAll}
 use Rattle.rising.specs.Literals.{bitsFrom}
@@ -23,7 +23,7 @@ fixpointOf b = listing (2 * b .names) (epistemic (2 * b .names) (2 * b .names + 
 
 -- all eleven at once, by computation
 pub fixpoint-books-hold : map fixpointOf books ≡ map modelsOf books
-unfolding books wordOf clauseOfValues some sift mask least same insertInto addAll bitsFrom choices next stage resting ending finalStage violates satisfies properIn leastIn minimals minimalModels numbered rewritten becomes standIns epistemic canonical listing flatMap
+unfolding books wordOf clauseOfValues wordBy bitsOf some sift mask least same insertInto addAll bitsFrom choices next stage resting ending finalStage violates satisfies properIn leastIn minimals minimalModels numbered rewritten becomes standIns epistemic canonical listing flatMap
 fixpoint-books-hold = refl
 
 -- the stages of the source's Example 2.11: a ∨ b ← c, ¬d ← c, c ←, ← a, b, over a, b, c, d
@@ -39,9 +39,9 @@ abbrev twelve : ℕ → List Clause
 twelve k = tabulate (λ _. clauseOfValues (17 ∷ tabulate (λ _. 0) 11)) k
 
 pub sixteen-stand-ins : members 24 (twelve 16) ≡ 64
-unfolding upFrom tabulate wordOf clauseOfValues sift bitsFrom standIns allStandIns members
+unfolding upFrom tabulate wordOf clauseOfValues wordBy bitsOf sift bitsFrom standIns allStandIns members
 sixteen-stand-ins = refl
 
 pub seventeen-stand-ins : members 24 (twelve 17) ≡ 65
-unfolding upFrom tabulate wordOf clauseOfValues sift bitsFrom standIns allStandIns members
+unfolding upFrom tabulate wordOf clauseOfValues wordBy bitsOf sift bitsFrom standIns allStandIns members
 seventeen-stand-ins = refl

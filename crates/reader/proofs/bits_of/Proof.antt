@@ -1,5 +1,5 @@
 -- `reader::bits_of` meets its contract. Assumes nothing.
-use Rattle.text.specs.Tables.{bitsOf}
+use Rattle.program.specs.Values.{bitsOf}
 use Rattle.reader.proofs.TableRules.{rules}
 use Rattle.reader.proofs.bits_of.Statement.{statement}
 use Rattle.reader.proofs.bits_of.Tie as tie
