@@ -15,19 +15,19 @@ use Rattle.lists.specs.Bytes.{same}
 use Rattle.lists.proofs.Loops.{same-true, same-self}
 use Rattle.decimal.specs.declared.Parsed.{Parsed}
 use Rattle.decimal.specs.declared.Parsed.the-variants.{Number, Nothing}
-use Rattle.decimal.specs.Decimal.{digits, decimal, numberOf, parsedOf}
+use Rattle.decimal.specs.Decimal.{numeral, decimal, numberOf, parsedOf}
 
 -- ---- digit by digit
-digits-one : (k v : ℕ) → v < 10 → digits (suc k) v ≡ (48 + v) ∷ []
-unfolding digits
+digits-one : (k v : ℕ) → v < 10 → numeral (suc k) v ≡ (48 + v) ∷ []
+unfolding numeral
 digits-one k v h = rw (lt-ltb v 10 h)
 
-digits-more : (k v : ℕ) → 10 ≤ v → digits (suc k) v ≡ digits k (v / 10) ++ (48 + v % 10) ∷ []
-unfolding digits
+digits-more : (k v : ℕ) → 10 ≤ v → numeral (suc k) v ≡ numeral k (v / 10) ++ (48 + v % 10) ∷ []
+unfolding numeral
 digits-more k v h = rw (le-ltb v 10 h)
 
 -- one more than the number is bound enough
-enough : (j k v : ℕ) → v < j → v < k → digits j v ≡ digits k v
+enough : (j k v : ℕ) → v < j → v < k → numeral j v ≡ numeral k v
 enough zero k v h l = absurd (omega arith)
 enough (suc j) zero v h l = absurd (omega arith)
 enough (suc j) (suc k) v h l = ⊎-elim

@@ -96,7 +96,7 @@ append-digit v d h l =
 
 -- what a digit that goes on is
 record Goes (v d bound : ℕ) : Type 0 where
-  some : 1 ≤ v
+  one-up : 1 ≤ v
   digit : d < 10
   small : 10 * v + d ≤ bound
 
@@ -105,7 +105,7 @@ unfolding goesOn
 goes-parts v d bound t =
     let a = both-true (leb 1 v && ltb d 10) (leb (10 * v + d) bound) t in
     let b = both-true (leb 1 v) (ltb d 10) (a .0) in
-    record { some = leb-true 1 v (b .0); digit = ltb-true d 10 (b .1); small = leb-true (10 * v + d) bound (a .1) }
+    record { one-up = leb-true 1 v (b .0); digit = ltb-true d 10 (b .1); small = leb-true (10 * v + d) bound (a .1) }
 
 goes-true : (v d bound : ℕ) → 1 ≤ v → d < 10 → 10 * v + d ≤ bound → goesOn v d bound ≡ true
 unfolding goesOn
@@ -118,7 +118,7 @@ parse-fits v d bound t = goes-parts v d bound t .small
 module _ (s : List ℕ) (bound : ℕ) where
   -- the first i bytes are the text of v
   pub record Parsing (i v : ℕ) : Type 0 where
-    pub some : 1 ≤ i
+    pub one-up : 1 ≤ i
     pub within : i ≤ length s
     pub small : v ≤ bound
     pub text : decimal v ≡ take i s
@@ -142,7 +142,7 @@ module _ (s : List ℕ) (bound : ℕ) where
       let a = both-false (ltb 9 d) (ltb bound d) f in
       let l = ltb-false 9 d (a .0) in
       record {
-        some = omega arith;
+        one-up = omega arith;
         within = omega arith;
         small = ltb-false bound d (a .1);
         text = decimal-one d (omega arith) ∙ ap (λ (x : ℕ). x ∷ []) (ap (λ (x : ℕ). 48 + x) e ∙ byte-of (getD s 0 0) (omega arith)) ∙ sym (start-of h);
@@ -163,10 +163,10 @@ module _ (s : List ℕ) (bound : ℕ) where
       let g = goes-parts v d bound t in
       let l = g .digit in
       record {
-        some = omega arith;
+        one-up = omega arith;
         within = omega arith;
         small = g .small;
-        text = append-digit v d (g .some) (g .digit)
+        text = append-digit v d (g .one-up) (g .digit)
             ∙ ap₂ (λ (xs : List ℕ) (x : ℕ). xs ++ x ∷ []) (p .text) (ap (λ (x : ℕ). 48 + x) e ∙ byte-of (getD s i 0) (omega arith))
             ∙ sym (one-more s i h);
       }

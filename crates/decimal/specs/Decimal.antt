@@ -11,14 +11,14 @@ use Rattle.decimal.specs.declared.Parsed.{Parsed}
 use Rattle.decimal.specs.declared.Parsed.the-variants.{Number, Nothing}
 
 -- the text of v: its one digit, or the text of its tens and the digit of its ones; k bounds the number of digits
-unfoldable pub digits : ℕ → ℕ → List ℕ
-digits zero v = []
-digits (suc k) v = let tens = digits k (v / 10) in cond (ltb v 10) ((48 + v) ∷ []) (tens ++ (48 + v % 10) ∷ [])
+unfoldable pub numeral : ℕ → ℕ → List ℕ
+numeral zero v = []
+numeral (suc k) v = let tens = numeral k (v / 10) in cond (ltb v 10) ((48 + v) ∷ []) (tens ++ (48 + v % 10) ∷ [])
 
 -- "a decimal number .. without leading zeros ("0" itself is fine)": v has fewer than v + 2 digits
 unfoldable pub decimal : ℕ → List ℕ
-unfolding digits
-decimal v = digits (suc v) v
+unfolding numeral
+decimal v = numeral (suc v) v
 
 -- the least number up to the bound whose decimal text is the item; bound + 1 for none
 unfoldable pub numberOf : ℕ → List ℕ → ℕ

@@ -63,8 +63,11 @@ abbrev pub roomOf : List ℕ → List ℕ → ℕ
 roomOf w v = min (length w) (length v)
 
 -- "the fixpoint [meets] 9, 11, 12"
+abbrev pub refusals : Program → ℕ → List (ℕ × Bool)
+refusals p room = (9, not (valid p)) ∷ (11, ltb 64 (vocabulary p)) ∷ (12, crowded (transformOf p) room) ∷ []
+
 unfoldable pub refusal : Program → ℕ → ℕ
-refusal p room = lowest ((9, not (valid p)) ∷ (11, ltb 64 (vocabulary p)) ∷ (12, crowded (transformOf p) room) ∷ [])
+refusal p room = lowest (refusals p room)
 
 -- the answer, and the lent list at exit
 unfoldable pub answerOf : Program → List ℕ → List ℕ → List ℕ → FixpointAnswer

@@ -5,7 +5,7 @@ use mathlib.Core.List.{List}
 use Prim.Native.Nat.{ℕ, _+_, _≤_, _<_}
 use native.Mathlib.Omega.{arith}
 use lib.ListN.{length, drop}
-use Rattle.sets.specs.Lists.{every, some}
+use Rattle.sets.specs.Lists.{every, anyOf}
 use Rattle.lists.specs.Bytes.{same, distinct, pieces, ended, EndsAt}
 use Rattle.lists.proofs.Pieces.{left, part, left-start, left-step, left-done, line-step, line-done}
 
@@ -57,24 +57,24 @@ module _ (c : ℕ) (xs : List ℕ) where
   module _ (p : List ℕ → Bool) (from : ℕ) where
     -- none of the pieces between from and at passes
     pub record Missed (at : ℕ) : Type 0 where
-      pub rest : some p (left c xs at) ≡ some p (left c xs from)
+      pub rest : anyOf p (left c xs at) ≡ anyOf p (left c xs from)
 
     pub missed-start : Missed from
     missed-start = record { rest = refl }
 
-    missed-step : (at e : ℕ) → at ≤ length xs → EndsAt xs c at e → some p (left c xs at) ≡ (p (part xs at e) || some p (left c xs (e + 1)))
-    unfolding some
-    missed-step at e h q = rw (q .is) (ap (some p) (left-step c xs at h))
+    missed-step : (at e : ℕ) → at ≤ length xs → EndsAt xs c at e → anyOf p (left c xs at) ≡ (p (part xs at e) || anyOf p (left c xs (e + 1)))
+    unfolding anyOf
+    missed-step at e h q = rw (q .is) (ap (anyOf p) (left-step c xs at h))
 
-    pub missed-hit : (at e : ℕ) → Missed at → at ≤ length xs → EndsAt xs c at e → p (part xs at e) ≡ true → true ≡ some p (left c xs from)
+    pub missed-hit : (at e : ℕ) → Missed at → at ≤ length xs → EndsAt xs c at e → p (part xs at e) ≡ true → true ≡ anyOf p (left c xs from)
     missed-hit at e s h q t = rw t at (sym (missed-step at e h q)) ∙ s .rest
 
     pub missed-more : (at e : ℕ) → Missed at → at ≤ length xs → EndsAt xs c at e → p (part xs at e) ≡ false → Missed (e + 1)
     missed-more at e s h q t = record { rest = rw t at (sym (missed-step at e h q)) ∙ s .rest }
 
-    pub missed-done : (at : ℕ) → Missed at → length xs < at → false ≡ some p (left c xs from)
-    unfolding some
-    missed-done at s h = sym (ap (some p) (left-done c xs at h)) ∙ s .rest
+    pub missed-done : (at : ℕ) → Missed at → length xs < at → false ≡ anyOf p (left c xs from)
+    unfolding anyOf
+    missed-done at s h = sym (ap (anyOf p) (left-done c xs at h)) ∙ s .rest
 
   -- the pieces below at stand nowhere behind themselves
   pub record Differ (at : ℕ) : Type 0 where
@@ -83,14 +83,14 @@ module _ (c : ℕ) (xs : List ℕ) where
   pub differ-start : Differ 0
   differ-start = record { rest = ap distinct (left-start c xs) }
 
-  differ-step : (at e : ℕ) → at ≤ length xs → EndsAt xs c at e → distinct (left c xs at) ≡ cond (some (same (part xs at e)) (left c xs (e + 1))) false (distinct (left c xs (e + 1)))
+  differ-step : (at e : ℕ) → at ≤ length xs → EndsAt xs c at e → distinct (left c xs at) ≡ cond (anyOf (same (part xs at e)) (left c xs (e + 1))) false (distinct (left c xs (e + 1)))
   unfolding distinct
   differ-step at e h q = rw (q .is) (ap distinct (left-step c xs at h))
 
-  pub differ-not : (at e : ℕ) → Differ at → at ≤ length xs → EndsAt xs c at e → some (same (part xs at e)) (left c xs (e + 1)) ≡ true → false ≡ distinct (pieces c xs)
+  pub differ-not : (at e : ℕ) → Differ at → at ≤ length xs → EndsAt xs c at e → anyOf (same (part xs at e)) (left c xs (e + 1)) ≡ true → false ≡ distinct (pieces c xs)
   differ-not at e s h q t = rw t at (sym (differ-step at e h q)) ∙ s .rest
 
-  pub differ-more : (at e : ℕ) → Differ at → at ≤ length xs → EndsAt xs c at e → some (same (part xs at e)) (left c xs (e + 1)) ≡ false → Differ (e + 1)
+  pub differ-more : (at e : ℕ) → Differ at → at ≤ length xs → EndsAt xs c at e → anyOf (same (part xs at e)) (left c xs (e + 1)) ≡ false → Differ (e + 1)
   differ-more at e s h q t = record { rest = rw t at (sym (differ-step at e h q)) ∙ s .rest }
 
   pub differ-done : (at : ℕ) → Differ at → length xs < at → true ≡ distinct (pieces c xs)

@@ -3,7 +3,7 @@ ghost use mathlib.Core.Path.{_≡_};
 ghost use mathlib.Core.Bool.{false};
 ghost use Prim.Native.Nat.{_≤_};
 ghost use lib.ListN.{length, drop};
-ghost use Rattle.sets.specs.Lists.{every, some};
+ghost use Rattle.sets.specs.Lists.{every, anyOf};
 ghost use Rattle.lists.specs.Bytes.{same, distinct, pieces, ended};
 ghost use Rattle.lists.proofs.Pieces.{left};
 ghost use Rattle.program.specs.Names.{isName};
@@ -88,7 +88,7 @@ fn zeros_hold(line: &[u8]) -> bool
 
 // Whether `item` stands on the line from `from` on.
 fn stands_again(line: &[u8], from: usize, item: &[u8]) -> bool
-    ensures { λ r. ⌜ r ≡ some (same (now (item .entry))) (left 32 (now (line .entry)) from) ⌝ }
+    ensures { λ r. ⌜ r ≡ anyOf (same (now (item .entry))) (left 32 (now (line .entry)) from) ⌝ }
 {
     let mut at = from;
     while at <= line.len() {
@@ -143,7 +143,7 @@ fn lines_hold(text: &[u8], from: usize, n: usize) -> bool
 
 fn some_zeros(text: &[u8], from: usize) -> bool
     requires { ⌜ from ≤ length (now text) ⌝ }
-    ensures { λ r. ⌜ r ≡ some (λ l. every isZero (pieces 32 l)) (ended 10 (drop from (now (text .entry)))) ⌝ }
+    ensures { λ r. ⌜ r ≡ anyOf (λ l. every isZero (pieces 32 l)) (ended 10 (drop from (now (text .entry)))) ⌝ }
 {
     let mut at = from;
     let mut e = lists::end_of(text, at, NEWLINE);

@@ -13,13 +13,13 @@ use lib.ListN.{length, getD, set}
 use lib.Seq.{getD-set-same, getD-set-other}
 use lib.Pow.{shl-exact}
 use borrow.Author.Tests.{eq-eqb, ne-eqb}
-use Rattle.sets.specs.Lists.{_∈_, some, sift, upFrom, onward}
+use Rattle.sets.specs.Lists.{_∈_, anyOf, sift, upFrom, onward}
 use Rattle.sets.specs.Words.{bit, apart, meets}
 use Rattle.sets.proofs.Lists.{onward-step, onward-done, upFrom-ext, upFrom-add}
 use Rattle.sets.proofs.Tests.{T-true}
 use Rattle.sets.proofs.Digits.{bits-ext, meets-bits}
 use Rattle.rising.proofs.Literals.{low-lt, literals-low, lit-out}
-use Rattle.heads.specs.Heads.{Literal, headsFrom, union, without}
+use Rattle.heads.specs.Heads.{Literal, headsFrom, offeredBy, without}
 use Rattle.sets.proofs.Branches.{in-or, or-left, or-right, in-pow}
 
 -- ---- words
@@ -79,7 +79,7 @@ module _ (ws : List ℕ) (n : ℕ) where
 
 -- ---- the literals of the heads before k
 pub record Joining (ws : List ℕ) (n all k : ℕ) : Type 0 where
-  pub whole : bitOr all (union (headsFrom ws n k)) ≡ union (headsFrom ws n 0)
+  pub whole : bitOr all (offeredBy (headsFrom ws n k)) ≡ offeredBy (headsFrom ws n 0)
 
 or-assoc : (a b c : ℕ) → bitOr (bitOr a b) c ≡ bitOr a (bitOr b c)
 or-assoc a b c = bits-ext (bitOr (bitOr a b) c) (bitOr a (bitOr b c))
@@ -92,39 +92,39 @@ or-assoc a b c = bits-ext (bitOr (bitOr a b) c) (bitOr a (bitOr b c))
 
 module _ (ws : List ℕ) (n : ℕ) where
   pub join-start : Joining ws n 0 0
-  join-start = record { whole = or-zero-l (union (headsFrom ws n 0)) }
+  join-start = record { whole = or-zero-l (offeredBy (headsFrom ws n 0)) }
 
   module _ (all k : ℕ) (s : Joining ws n all k) where
     pub join-step : k < n → Joining ws n (bitOr all (getD ws k 0)) (k + 1)
-    unfolding union
-    join-step h = record { whole = or-assoc all (getD ws k 0) (union (headsFrom ws n (k + 1))) ∙ ap (λ (l : List ℕ). bitOr all (union l)) (sym (heads-one ws n k h)) ∙ s .whole }
+    unfolding offeredBy
+    join-step h = record { whole = or-assoc all (getD ws k 0) (offeredBy (headsFrom ws n (k + 1))) ∙ ap (λ (l : List ℕ). bitOr all (offeredBy l)) (sym (heads-one ws n k h)) ∙ s .whole }
 
-    pub join-done : n ≤ k → all ≡ union (headsFrom ws n 0)
-    unfolding union
-    join-done h = sym (ap (λ (l : List ℕ). bitOr all (union l)) (heads-none ws n k h) ∙ or-zero-r all) ∙ s .whole
+    pub join-done : n ≤ k → all ≡ offeredBy (headsFrom ws n 0)
+    unfolding offeredBy
+    join-done h = sym (ap (λ (l : List ℕ). bitOr all (offeredBy l)) (heads-none ws n k h) ∙ or-zero-r all) ∙ s .whole
 
 -- ---- no head before k misses v
 pub record Missing (ws : List ℕ) (n v k : ℕ) : Type 0 where
-  pub same : some (apart v) (headsFrom ws n k) ≡ some (apart v) (headsFrom ws n 0)
+  pub same : anyOf (apart v) (headsFrom ws n k) ≡ anyOf (apart v) (headsFrom ws n 0)
 
 module _ (ws : List ℕ) (n v : ℕ) where
   pub miss-start : Missing ws n v 0
   miss-start = record { same = refl }
 
   module _ (k : ℕ) (s : Missing ws n v k) where
-    here : k < n → (b : Bool) → apart v (getD ws k 0) ≡ b → _||_ b (some (apart v) (headsFrom ws n (k + 1))) ≡ some (apart v) (headsFrom ws n 0)
-    unfolding some
-    here h b e = sym (ap (λ (x : Bool). _||_ x (some (apart v) (headsFrom ws n (k + 1)))) e) ∙ ap (some (apart v)) (sym (heads-one ws n k h)) ∙ s .same
+    here : k < n → (b : Bool) → apart v (getD ws k 0) ≡ b → _||_ b (anyOf (apart v) (headsFrom ws n (k + 1))) ≡ anyOf (apart v) (headsFrom ws n 0)
+    unfolding anyOf
+    here h b e = sym (ap (λ (x : Bool). _||_ x (anyOf (apart v) (headsFrom ws n (k + 1)))) e) ∙ ap (anyOf (apart v)) (sym (heads-one ws n k h)) ∙ s .same
 
-    pub miss-hit : k < n → bitAnd v (getD ws k 0) ≡ 0 → true ≡ some (apart v) (headsFrom ws n 0)
+    pub miss-hit : k < n → bitAnd v (getD ws k 0) ≡ 0 → true ≡ anyOf (apart v) (headsFrom ws n 0)
     miss-hit h e = here h true (eq-eqb (bitAnd v (getD ws k 0)) 0 e)
 
     pub miss-on : k < n → (bitAnd v (getD ws k 0) ≡ 0 → ⊥) → Missing ws n v (k + 1)
     miss-on h e = record { same = here h false (ne-eqb (bitAnd v (getD ws k 0)) 0 e) }
 
-    pub miss-done : n ≤ k → false ≡ some (apart v) (headsFrom ws n 0)
-    unfolding some
-    miss-done h = sym (ap (some (apart v)) (heads-none ws n k h)) ∙ s .same
+    pub miss-done : n ≤ k → false ≡ anyOf (apart v) (headsFrom ws n 0)
+    unfolding anyOf
+    miss-done h = sym (ap (anyOf (apart v)) (heads-none ws n k h)) ∙ s .same
 
 -- ---- m heads before k meet x
 pub record Meeting (ws : List ℕ) (n x m k : ℕ) : Type 0 where

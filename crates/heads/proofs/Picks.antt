@@ -20,7 +20,7 @@ use Rattle.rising.specs.Literals.{literals}
 use Rattle.rising.specs.RisingSets.{addAll}
 use Rattle.rising.proofs.Literals.{lit-out, put-put}
 use Rattle.rising.proofs.RisingSets.{addAll-same}
-use Rattle.heads.specs.Heads.{picks, union}
+use Rattle.heads.specs.Heads.{picks, offeredBy}
 use Rattle.sets.proofs.Branches.{in-or, or-left, or-right, both-in, in-both, in-pow, pow-in}
 
 -- ---- it holds j
@@ -36,19 +36,19 @@ pub picks-chosen : (H : List ℕ) (j v t : ℕ) → v ∈ picks H (put t j) → 
 picks-chosen H j v t m = picks-holds H (put t j) v m t (or-right j (2 ^ t) t (pow-in t))
 
 -- ---- it has no literal but of j and the heads
-pub picks-within : (H : List ℕ) (j v : ℕ) → v ∈ picks H j → bit v ⊑ bit (bitOr j (union H))
-unfolding picks union
+pub picks-within : (H : List ℕ) (j v : ℕ) → v ∈ picks H j → bit v ⊑ bit (bitOr j (offeredBy H))
+unfolding picks offeredBy
 picks-within [] j v (inl e) i t = or-left j 0 i (subst (λ (z : ℕ). T (bit z i)) e t)
 picks-within [] j v (inr m) i t = absurd m
 picks-within (h ∷ H) j v m i t =
     let s = flatMap-in (λ t. picks H (put t j)) v (literals h) m in
     ⊎-elim
     (λ a. ⊎-elim
-    (λ b. or-left j (bitOr h (union H)) i b)
-    (λ p. or-right j (bitOr h (union H)) i (or-left h (union H) i (subst (λ (z : ℕ). T (bit h z)) (sym (in-pow (s .0) i p)) (lit-out h (s .0) (s .1) .1))))
+    (λ b. or-left j (bitOr h (offeredBy H)) i b)
+    (λ p. or-right j (bitOr h (offeredBy H)) i (or-left h (offeredBy H) i (subst (λ (z : ℕ). T (bit h z)) (sym (in-pow (s .0) i p)) (lit-out h (s .0) (s .1) .1))))
     (in-or j (2 ^ s .0) i a))
-    (λ u. or-right j (bitOr h (union H)) i (or-right h (union H) i u))
-    (in-or (put (s .0) j) (union H) i (picks-within H (put (s .0) j) v (s .2) i t))
+    (λ u. or-right j (bitOr h (offeredBy H)) i (or-right h (offeredBy H) i u))
+    (in-or (put (s .0) j) (offeredBy H) i (picks-within H (put (s .0) j) v (s .2) i t))
 
 -- ---- it meets each head
 pub picks-met : (H : List ℕ) (j v h : ℕ) → v ∈ picks H j → h ∈ H → (i : ℕ) × T (bit h i) × T (bit v i)

@@ -9,7 +9,7 @@ use lib.Bits.{bitAnd, and-le-l, or-zero-l}
 use lib.Dec.{T, eqb}
 use lib.ListN.{getD}
 use borrow.Author.Tests.{eqb-true, eq-eqb}
-use Rattle.sets.specs.Lists.{_∈_, some}
+use Rattle.sets.specs.Lists.{_∈_, anyOf}
 use Rattle.sets.specs.Words.{bit, put}
 use Rattle.sets.proofs.Lists.{some-in, in-some, in-flatMap, flatMap-in}
 use Rattle.sets.proofs.Tests.{dec, clash, true-T}
@@ -23,14 +23,14 @@ use Rattle.heads.proofs.Loops.{heads-one, heads-none}
 use Rattle.heads.proofs.Picks.{picks-chosen}
 
 -- ---- a word in a list
-is-in : (w : ℕ) (L : List ℕ) → some (eqb w) L ≡ true → w ∈ L
+is-in : (w : ℕ) (L : List ℕ) → anyOf (eqb w) L ≡ true → w ∈ L
 is-in w L e = let s = some-in (eqb w) L e in subst (λ (x : ℕ). x ∈ L) (sym (eqb-true w (s .0) (s .2))) (s .1)
 
-in-is : (w : ℕ) (L : List ℕ) → w ∈ L → some (eqb w) L ≡ true
+in-is : (w : ℕ) (L : List ℕ) → w ∈ L → anyOf (eqb w) L ≡ true
 in-is w L m = in-some (eqb w) L w m (eq-eqb w w refl)
 
-not-in : (w : ℕ) (L : List ℕ) → (w ∈ L → ⊥) → some (eqb w) L ≡ false
-not-in w L n = ⊎-elim (λ t. absurd (n (is-in w L t))) (λ f. f) (dec (some (eqb w) L))
+not-in : (w : ℕ) (L : List ℕ) → (w ∈ L → ⊥) → anyOf (eqb w) L ≡ false
+not-in w L n = ⊎-elim (λ t. absurd (n (is-in w L t))) (λ f. f) (dec (anyOf (eqb w) L))
 
 -- what the literals of `rest` lead to, at the head k
 abbrev pub tried : List ℕ → ℕ → ℕ → ℕ → ℕ → List ℕ
@@ -47,9 +47,9 @@ or-false true = refl
 or-false false = refl
 
 module _ (ws : List ℕ) (n w k j : ℕ) where
-  pub try-end : k ≡ n → eqb w j ≡ some (eqb w) (picks (headsFrom ws n k) j)
-  unfolding picks some
-  try-end e = sym (ap (λ (H : List ℕ). some (eqb w) (picks H j)) (heads-none ws n k (omega arith)) ∙ or-false (eqb w j))
+  pub try-end : k ≡ n → eqb w j ≡ anyOf (eqb w) (picks (headsFrom ws n k) j)
+  unfolding picks anyOf
+  try-end e = sym (ap (λ (H : List ℕ). anyOf (eqb w) (picks H j)) (heads-none ws n k (omega arith)) ∙ or-false (eqb w j))
 
   one : k < n → picks (headsFrom ws n k) j ≡ tried ws n k j (getD ws k 0)
   unfolding picks
@@ -73,15 +73,15 @@ module _ (ws : List ℕ) (n w k j : ℕ) where
       }
 
   module _ (rest : ℕ) (s : Trying ws n w k j rest) where
-    pub try-none : rest ≡ 0 → false ≡ some (eqb w) (picks (headsFrom ws n k) j)
+    pub try-none : rest ≡ 0 → false ≡ anyOf (eqb w) (picks (headsFrom ws n k) j)
     unfolding flatMap
     try-none z = sym (not-in w (picks (headsFrom ws n k) j) (λ m. subst (λ (l : List ℕ). w ∈ flatMap (λ t. picks (headsFrom ws n (k + 1)) (put t j)) l) (ap literals z ∙ literals-none) (s .to m)))
 
-    module _ (t v : ℕ) (l : Literal rest t) (p : v ≡ put t j) (b : Bool) (e : b ≡ some (eqb w) (picks (headsFrom ws n (k + 1)) v)) where
-      same : b ≡ some (eqb w) (picks (headsFrom ws n (k + 1)) (put t j))
-      same = e ∙ ap (λ (x : ℕ). some (eqb w) (picks (headsFrom ws n (k + 1)) x)) p
+    module _ (t v : ℕ) (l : Literal rest t) (p : v ≡ put t j) (b : Bool) (e : b ≡ anyOf (eqb w) (picks (headsFrom ws n (k + 1)) v)) where
+      same : b ≡ anyOf (eqb w) (picks (headsFrom ws n (k + 1)) (put t j))
+      same = e ∙ ap (λ (x : ℕ). anyOf (eqb w) (picks (headsFrom ws n (k + 1)) x)) p
 
-      pub try-hit : b ≡ true → true ≡ some (eqb w) (picks (headsFrom ws n k) j)
+      pub try-hit : b ≡ true → true ≡ anyOf (eqb w) (picks (headsFrom ws n k) j)
       try-hit y = sym (in-is w (picks (headsFrom ws n k) j) (s .of (in-flatMap (λ t. picks (headsFrom ws n (k + 1)) (put t j)) t w (literals rest)
           (lit-in rest t (l .small) (true-T (bit rest t) (l .member))) (is-in w (picks (headsFrom ws n (k + 1)) (put t j)) (sym same ∙ y)))))
 
@@ -97,7 +97,7 @@ module _ (ws : List ℕ) (n w k j : ℕ) where
                 (lit-in rest′ (r .0) (g .0) (subst (λ (x : ℕ). T (bit x (r .0))) (sym d) (without-in rest u (r .0) (g .1)
                 (λ x.
                 let z : r .0 ≡ t = in-pow t (r .0) (subst (λ (y : ℕ). T (bit y (r .0))) is x) in
-                clash (some (eqb w) (picks (headsFrom ws n (k + 1)) (put t j))) (in-is w (picks (headsFrom ws n (k + 1)) (put t j)) (subst (λ (y : ℕ). w ∈ picks (headsFrom ws n (k + 1)) (put y j)) z (r .2))) (sym same ∙ y))))) (r .2);
+                clash (anyOf (eqb w) (picks (headsFrom ws n (k + 1)) (put t j))) (in-is w (picks (headsFrom ws n (k + 1)) (put t j)) (subst (λ (y : ℕ). w ∈ picks (headsFrom ws n (k + 1)) (put y j)) z (r .2))) (sym same ∙ y))))) (r .2);
             of = λ m.
                 let r = flatMap-in (λ t. picks (headsFrom ws n (k + 1)) (put t j)) w (literals rest′) m in
                 let g = lit-out rest′ (r .0) (r .1) in
@@ -110,8 +110,8 @@ module _ (ws : List ℕ) (n w k j : ℕ) where
       try-less u rest′ q d =
           let is : u ≡ 2 ^ t = q ∙ or-zero-l (2 ^ t) in
           let in-u : T (bit (bitAnd rest u) t) = both-in rest u t (true-T (bit rest t) (l .member)) (subst (λ (x : ℕ). T (bit x t)) (sym is) (pow-in t)) in
-          let some : (bitAnd rest u ≡ 0 → ⊥) = λ z. subst T (bit-zero t) (subst (λ (x : ℕ). T (bit x t)) z in-u) in
-          omega (arith, some, and-le-l rest u)
+          let hit : (bitAnd rest u ≡ 0 → ⊥) = λ z. subst T (bit-zero t) (subst (λ (x : ℕ). T (bit x t)) z in-u) in
+          omega (arith, hit, and-le-l rest u)
 
     pub try-within : (k + 1 ≤ n)
     try-within = omega (arith, s .before)

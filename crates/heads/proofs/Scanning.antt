@@ -11,7 +11,7 @@ use lib.Dec.{T, eqb, ltb}
 use lib.ListN.{length, take}
 use lib.Seq.{length-take-le}
 use borrow.Author.Tests.{eqb-true, eq-eqb, ltb-true}
-use Rattle.sets.specs.Lists.{_∈_, Rising, some, sift}
+use Rattle.sets.specs.Lists.{_∈_, Rising, anyOf, sift}
 use Rattle.sets.specs.Words.{bit, apart, meets, Highest}
 use Rattle.sets.proofs.Lists.{some-in, none-each, in-sift, out-sift, sift-in, sift-out, sift-none, in-++, in-++-l, in-++-r}
 use Rattle.sets.proofs.Tests.{T?, not-T-false}
@@ -22,7 +22,7 @@ use Rattle.rising.specs.Slices.{Put}
 use Rattle.rising.proofs.Growing.{Growing, put-grown, grown-as, grow-start, grow-call, grow-done, grow-over}
 use Rattle.rising.proofs.RisingSets.{addAll-same}
 use Rattle.rising.proofs.Slices.{size-fits}
-use Rattle.heads.specs.Heads.{picks, union, without, between}
+use Rattle.heads.specs.Heads.{picks, offeredBy, without, between}
 use Rattle.sets.proofs.Branches.{in-or, or-left, or-right, both-in, in-both, from-out, from-in, branches}
 use Rattle.heads.proofs.Tests.{is-between, between-is, between-one, one-between, in-without, without-in}
 use Rattle.heads.proofs.Picks.{picks-holds, picks-within, picks-met, picks-count}
@@ -36,7 +36,7 @@ ones-none = refl
 
 -- ---- the tests that leave a branch
 module _ (H : List ℕ) (j free w : ℕ) where
-  pub barren-missed : (r : Bool) → r ≡ some (apart (bitOr w free)) H → r ≡ true → sift (between free w) (picks H j) ≡ []
+  pub barren-missed : (r : Bool) → r ≡ anyOf (apart (bitOr w free)) H → r ≡ true → sift (between free w) (picks H j) ≡ []
   barren-missed r e t = nothing (between free w) (picks H j) (λ x m b.
       let s = some-in (apart (bitOr w free)) H (sym e ∙ t) in
       let q = picks-met H j x (s .0) m (s .1) in
@@ -67,10 +67,10 @@ module _ (L xs : List ℕ) (held : ℕ) where
       (let l = length-take-le held xs h in record { count = sym (size-fits (length xs) (take held xs) (omega arith) ∙ l); words = λ k. refl })
 
   module _ (w : ℕ) where
-    pub one-not : (b : Bool) → held ≤ length xs → b ≡ some (eqb w) L → b ≡ false → Grown (length xs) (addAll (sift (eqb w) L) (take held xs)) xs held
+    pub one-not : (b : Bool) → held ≤ length xs → b ≡ anyOf (eqb w) L → b ≡ false → Grown (length xs) (addAll (sift (eqb w) L) (take held xs)) xs held
     one-not b h e f = grown-none (eqb w) h (sift-none (eqb w) L (none-each (eqb w) L (sym e ∙ f)))
 
-    pub one-put : (b : Bool) (out : List ℕ) (r : ℕ) → Rising (take held xs) → b ≡ some (eqb w) L → b ≡ true → Put xs out (insertInto w (take held xs)) r
+    pub one-put : (b : Bool) (out : List ℕ) (r : ℕ) → Rising (take held xs) → b ≡ anyOf (eqb w) L → b ≡ true → Put xs out (insertInto w (take held xs)) r
         → Grown (length xs) (addAll (sift (eqb w) L) (take held xs)) out r
     unfolding addAll
     one-put b out r rise e t p = grown-as (length xs) (insertInto w (take held xs)) (addAll (sift (eqb w) L) (take held xs)) out r
@@ -133,7 +133,7 @@ module _ (L xs : List ℕ) (held : ℕ) where
               (grow-call (length xs) (addAll (out-part ++ in-part) (take held xs)) in-part in-part [] ys out m r half (sym (append-nil in-part)) (omega arith) f l) refl)
 
 -- ---- all of them: they hold j and have no other literal but of the heads
-pub scan-all : (H xs : List ℕ) (held j u free : ℕ) (out : List ℕ) (r : ℕ) → Rising (take held xs) → u ≡ union H → free ≡ without u j
+pub scan-all : (H xs : List ℕ) (held j u free : ℕ) (out : List ℕ) (r : ℕ) → Rising (take held xs) → u ≡ offeredBy H → free ≡ without u j
     → Grown (length xs) (addAll (sift (between free j) (picks H j)) (take held xs)) out r → Grown (length xs) (addAll (picks H j) (take held xs)) out r
 scan-all H xs held j u free out r rise e f g = grown-as (length xs) (addAll (sift (between free j) (picks H j)) (take held xs)) (addAll (picks H j) (take held xs)) out r
     (addAll-same (picks H j) (sift (between free j) (picks H j)) (take held xs) rise
@@ -145,7 +145,7 @@ scan-all H xs held j u free out r rise e f g = grown-as (length xs) (addAll (sif
           (λ a. or-left j free i a)
           (λ n. or-right j free i (subst (λ (y : ℕ). T (bit y i)) (sym f) (without-in u j i (subst (λ (y : ℕ). T (bit y i)) (sym e) b) n)))
           (T? (bit j i)))
-          (in-or j (union H) i (picks-within H j x m i t));
+          (in-or j (offeredBy H) i (picks-within H j x m i t));
     })))
     (λ x m. out-sift (between free j) (picks H j) x m .0))
     g

@@ -19,9 +19,9 @@ picks [] j = j ∷ []
 picks (h ∷ H) j = flatMap (λ t. picks H (put t j)) (literals h)
 
 -- the literals of the heads
-unfoldable pub union : List ℕ → ℕ
-union [] = 0
-union (h ∷ H) = bitOr h (union H)
+unfoldable pub offeredBy : List ℕ → ℕ
+offeredBy [] = 0
+offeredBy (h ∷ H) = bitOr h (offeredBy H)
 
 -- a less what b has of it
 unfoldable pub without : ℕ → ℕ → ℕ

@@ -6,11 +6,11 @@ ghost use Prim.Native.Nat.{_≤_, _<_};
 ghost use lib.Count.{ones};
 ghost use lib.Dec.{eqb, ltb};
 ghost use lib.ListN.{length, take};
-ghost use Rattle.sets.specs.Lists.{Rising, some, sift};
+ghost use Rattle.sets.specs.Lists.{Rising, anyOf, sift};
 ghost use Rattle.sets.specs.Words.{apart, meets, Highest};
 ghost use Rattle.rising.specs.Growing.{Grown};
 ghost use Rattle.rising.specs.RisingSets.{addAll};
-ghost use Rattle.heads.specs.Heads.{headsFrom, picks, union, without, between, Literal};
+ghost use Rattle.heads.specs.Heads.{headsFrom, picks, offeredBy, without, between, Literal};
 
 // The highest literal of a word that has one, as a word.
 fn highest(s: u64) -> u64
@@ -154,7 +154,7 @@ fn pick(s: u64, k: usize, server: &[usize; 64]) -> u32
 // The literals of the first `n` heads.
 fn offered(wide: &[u64; 64], n: usize) -> u64
     requires { ⌜ n ≤ 64 ⌝ }
-    ensures { λ r. ⌜ r ≡ union (headsFrom (now (wide .entry)) n 0) ⌝ }
+    ensures { λ r. ⌜ r ≡ offeredBy (headsFrom (now (wide .entry)) n 0) ⌝ }
 {
     let mut all: u64 = 0;
     let mut k: usize = 0;
@@ -168,7 +168,7 @@ fn offered(wide: &[u64; 64], n: usize) -> u64
 // Whether some of the first `n` heads misses `v`.
 fn missed(wide: &[u64; 64], n: usize, v: u64) -> bool
     requires { ⌜ n ≤ 64 ⌝ }
-    ensures { λ r. ⌜ r ≡ some (apart v) (headsFrom (now (wide .entry)) n 0) ⌝ }
+    ensures { λ r. ⌜ r ≡ anyOf (apart v) (headsFrom (now (wide .entry)) n 0) ⌝ }
 {
     let mut k: usize = 0;
     while k < n {
@@ -240,7 +240,7 @@ fn reaches<'a>(
     server: &'a [usize; 64],
 ) -> bool
     requires { ⌜ (n ≤ 64) × (k ≤ n) ⌝ }
-    ensures { λ r. ⌜ r ≡ some (eqb w) (picks (headsFrom (now (wide .entry)) n k) j) ⌝ }
+    ensures { λ r. ⌜ r ≡ anyOf (eqb w) (picks (headsFrom (now (wide .entry)) n k) j) ⌝ }
 {
     if k == n {
         return w == j;

@@ -11,7 +11,7 @@ use lib.Dec.{eqb}
 use lib.ListN.{length, getD, drop, drop-of-length-le}
 use lib.Seq.{drop-cons}
 use borrow.Author.Tests.{eqb-true, eq-eqb, ne-eqb}
-use Rattle.sets.specs.Lists.{every, some, onward, tabulate}
+use Rattle.sets.specs.Lists.{every, anyOf, onward, tabulate}
 use Rattle.sets.proofs.Tests.{both-true, via, via-true, via-false}
 use Rattle.sets.proofs.Lists.{onward-start, onward-step, onward-done, kept-start, kept-not, kept-more, kept-done, lacks-start, lacks-not, lacks-more, lacks-done}
 use Rattle.lists.specs.Bytes.{pieces, ended, index, endOf, count, oneIf, same, distinct, EndsAt, Counts}
@@ -21,47 +21,47 @@ use Rattle.lists.proofs.Pieces.{left, part, left-start, left-step, left
 module _ (c : ℕ) (xs : List ℕ) (p : List ℕ → Bool) where
   -- none of the pieces below at passes
   pub record Passed (at : ℕ) : Type 0 where
-    pub rest : some p (left c xs at) ≡ some p (pieces c xs)
+    pub rest : anyOf p (left c xs at) ≡ anyOf p (pieces c xs)
 
   pub start : Passed 0
-  start = record { rest = ap (some p) (left-start c xs) }
+  start = record { rest = ap (anyOf p) (left-start c xs) }
 
-  step : (at e : ℕ) → at ≤ length xs → e ≡ endOf c xs at → some p (left c xs at) ≡ (p (part xs at e) || some p (left c xs (e + 1)))
-  unfolding some
-  step at e h q = rw q (ap (some p) (left-step c xs at h))
+  step : (at e : ℕ) → at ≤ length xs → e ≡ endOf c xs at → anyOf p (left c xs at) ≡ (p (part xs at e) || anyOf p (left c xs (e + 1)))
+  unfolding anyOf
+  step at e h q = rw q (ap (anyOf p) (left-step c xs at h))
 
-  pub hit : (at e : ℕ) → Passed at → at ≤ length xs → e ≡ endOf c xs at → p (part xs at e) ≡ true → true ≡ some p (pieces c xs)
+  pub hit : (at e : ℕ) → Passed at → at ≤ length xs → e ≡ endOf c xs at → p (part xs at e) ≡ true → true ≡ anyOf p (pieces c xs)
   hit at e s h q t = rw t at (sym (step at e h q)) ∙ s .rest
 
   pub miss : (at e : ℕ) → Passed at → at ≤ length xs → e ≡ endOf c xs at → p (part xs at e) ≡ false → Passed (e + 1)
   miss at e s h q t = record { rest = rw t at (sym (step at e h q)) ∙ s .rest }
 
-  pub done : (at : ℕ) → Passed at → length xs < at → false ≡ some p (pieces c xs)
-  unfolding some
-  done at s h = sym (ap (some p) (left-done c xs at h)) ∙ s .rest
+  pub done : (at : ℕ) → Passed at → length xs < at → false ≡ anyOf p (pieces c xs)
+  unfolding anyOf
+  done at s h = sym (ap (anyOf p) (left-done c xs at h)) ∙ s .rest
 
 -- ---- loops over the lines
 module _ (c : ℕ) (xs : List ℕ) (p : List ℕ → Bool) (from : ℕ) where
   -- none of the lines between from and at passes
   pub record LinesPassed (at : ℕ) : Type 0 where
-    pub rest : some p (ended c (drop at xs)) ≡ some p (ended c (drop from xs))
+    pub rest : anyOf p (ended c (drop at xs)) ≡ anyOf p (ended c (drop from xs))
 
   pub line-start : LinesPassed from
   line-start = record { rest = refl }
 
-  line-next : (at e : ℕ) → e ≡ endOf c xs at → e < length xs → some p (ended c (drop at xs)) ≡ (p (part xs at e) || some p (ended c (drop (e + 1) xs)))
-  unfolding some
-  line-next at e q h = rw q (ap (some p) (line-step c xs at (rw q at h)))
+  line-next : (at e : ℕ) → e ≡ endOf c xs at → e < length xs → anyOf p (ended c (drop at xs)) ≡ (p (part xs at e) || anyOf p (ended c (drop (e + 1) xs)))
+  unfolding anyOf
+  line-next at e q h = rw q (ap (anyOf p) (line-step c xs at (rw q at h)))
 
-  pub line-hit : (at e : ℕ) → LinesPassed at → e ≡ endOf c xs at → e < length xs → p (part xs at e) ≡ true → true ≡ some p (ended c (drop from xs))
+  pub line-hit : (at e : ℕ) → LinesPassed at → e ≡ endOf c xs at → e < length xs → p (part xs at e) ≡ true → true ≡ anyOf p (ended c (drop from xs))
   line-hit at e s q h t = rw t at (sym (line-next at e q h)) ∙ s .rest
 
   pub line-miss : (at e : ℕ) → LinesPassed at → e ≡ endOf c xs at → e < length xs → p (part xs at e) ≡ false → LinesPassed (e + 1)
   line-miss at e s q h t = record { rest = rw t at (sym (line-next at e q h)) ∙ s .rest }
 
-  pub line-none : (at e : ℕ) → LinesPassed at → e ≡ endOf c xs at → length xs ≤ e → false ≡ some p (ended c (drop from xs))
-  unfolding some
-  line-none at e s q h = sym (ap (some p) (line-done c xs at (rw q at h))) ∙ s .rest
+  pub line-none : (at e : ℕ) → LinesPassed at → e ≡ endOf c xs at → length xs ≤ e → false ≡ anyOf p (ended c (drop from xs))
+  unfolding anyOf
+  line-none at e s q h = sym (ap (anyOf p) (line-done c xs at (rw q at h))) ∙ s .rest
 
 -- ---- loops over bytes
 module _ (xs : List ℕ) where
@@ -132,22 +132,22 @@ module _ (xs : List ℕ) where
     -- none of the bytes below i passes
     pub record Scanned (i : ℕ) : Type 0 where
       pub within : i ≤ length xs
-      pub rest : some p (drop i xs) ≡ some p xs
+      pub rest : anyOf p (drop i xs) ≡ anyOf p xs
 
     pub scan-start : Scanned 0
     scan-start = record { within = omega arith; rest = refl }
 
-    pub scan-hit : (i : ℕ) → Scanned i → i < length xs → p (getD xs i 0) ≡ true → true ≡ some p xs
-    unfolding some
-    scan-hit i s h t = rw t at (sym (ap (some p) (ahead i h))) ∙ s .rest
+    pub scan-hit : (i : ℕ) → Scanned i → i < length xs → p (getD xs i 0) ≡ true → true ≡ anyOf p xs
+    unfolding anyOf
+    scan-hit i s h t = rw t at (sym (ap (anyOf p) (ahead i h))) ∙ s .rest
 
     pub scan-miss : (i : ℕ) → Scanned i → i < length xs → p (getD xs i 0) ≡ false → Scanned (i + 1)
-    unfolding some
-    scan-miss i s h t = record { within = omega arith; rest = rw t at (sym (ap (some p) (ahead i h))) ∙ s .rest }
+    unfolding anyOf
+    scan-miss i s h t = record { within = omega arith; rest = rw t at (sym (ap (anyOf p) (ahead i h))) ∙ s .rest }
 
-    pub scan-done : (i : ℕ) → Scanned i → length xs ≤ i → false ≡ some p xs
-    unfolding some
-    scan-done i s h = sym (ap (some p) (at-end i h)) ∙ s .rest
+    pub scan-done : (i : ℕ) → Scanned i → length xs ≤ i → false ≡ anyOf p xs
+    unfolding anyOf
+    scan-done i s h = sym (ap (anyOf p) (at-end i h)) ∙ s .rest
 
   module _ (p : ℕ → Bool) (from : ℕ) where
     -- all of the bytes between from and i pass
@@ -187,11 +187,11 @@ module _ (f : ℕ → List ℕ) (n : ℕ) where
   pub single-start : Single 0
   single-start = record { within = omega arith; rest = ap distinct (onward-start f n) }
 
-  pub single-not : (i : ℕ) → Single i → i < n → some (same (f i)) (onward f n (i + 1)) ≡ true → false ≡ distinct (tabulate f n)
+  pub single-not : (i : ℕ) → Single i → i < n → anyOf (same (f i)) (onward f n (i + 1)) ≡ true → false ≡ distinct (tabulate f n)
   unfolding distinct
   single-not i s h t = rw t at (sym (ap distinct (onward-step f n i h))) ∙ s .rest
 
-  pub single-more : (i : ℕ) → Single i → i < n → some (same (f i)) (onward f n (i + 1)) ≡ false → Single (i + 1)
+  pub single-more : (i : ℕ) → Single i → i < n → anyOf (same (f i)) (onward f n (i + 1)) ≡ false → Single (i + 1)
   unfolding distinct
   single-more i s h t = record { within = omega arith; rest = rw t at (sym (ap distinct (onward-step f n i h))) ∙ s .rest }
 

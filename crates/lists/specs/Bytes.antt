@@ -5,7 +5,7 @@ use mathlib.Core.List.{List, [], _∷_, _++_}
 use Prim.Native.Nat.{ℕ, zero, suc, _+_, _-_, _≤_, max}
 use lib.Dec.{eqb}
 use lib.ListN.{length, take, drop, replicate}
-use Rattle.sets.specs.Lists.{some}
+use Rattle.sets.specs.Lists.{anyOf}
 
 -- ---- cut at a byte
 -- one element more in front of the first piece
@@ -69,7 +69,7 @@ same (x ∷ xs) (y ∷ ys) = eqb x y && same xs ys
 unfoldable pub distinct : List (List ℕ) → Bool
 unfolding same
 distinct [] = true
-distinct (p ∷ ps) = cond (some (same p) ps) false (distinct ps)
+distinct (p ∷ ps) = cond (anyOf (same p) ps) false (distinct ps)
 
 -- ---- padded and written over
 -- zeros behind xs, n in all

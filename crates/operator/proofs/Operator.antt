@@ -7,7 +7,7 @@ use mathlib.Core.List.{List, [], _∷_, _++_, flatMap}
 use mathlib.Core.Path.{_≡_, refl, sym, ap, ap₂, _∙_, subst}
 use native.Mathlib.Omega.{arith}
 use Rattle.sets.proofs.Tests.{T-and-l, T-and-r, T-true}
-use Rattle.sets.specs.Lists.{some}
+use Rattle.sets.specs.Lists.{anyOf}
 use Rattle.sets.specs.Words.{inside, put}
 use Rattle.rising.proofs.Literals.{literals-none}
 use Rattle.rising.specs.Literals.{literals}
@@ -67,7 +67,7 @@ joined-none f (x ∷ l) h = ap₂ (λ a b. a ++ b) (h x) (joined-none f l h)
 
 -- then it gives nothing
 pub barred-none : (i : ℕ) (Q : List WordRule) → barred i Q ≡ true → (j : ℕ) → choices i Q j ≡ []
-unfolding some bars flatMap
+unfolding anyOf bars flatMap
 barred-none i [] e j = absurd (let z : _≡_ {A = ℕ} 0 1 = cc in omega arith)
 barred-none i (c ∷ Q) e j = go (bars i c) refl e (barred-none i Q)
   where

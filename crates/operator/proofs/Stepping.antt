@@ -10,7 +10,7 @@ use mathlib.Core.List.{List, _∷_, _++_, flatMap}
 use mathlib.Core.Path.{_≡_, refl, sym, ap, ap₂, _∙_, subst}
 use native.Mathlib.Numerals.{add-one}
 use native.Mathlib.Omega.{arith}
-use Rattle.sets.specs.Lists.{Rising, some}
+use Rattle.sets.specs.Lists.{Rising, anyOf}
 use Rattle.sets.specs.Words.{inside}
 use Rattle.rising.proofs.Growing.{Growing, grown-as, grow-start, grow-call, grow-done, grow-over}
 use Rattle.heads.specs.Heads.{headsFrom, picks}
@@ -30,27 +30,27 @@ bars-is i head body = refl
 
 pub record Passing (t : WordRule → Bool) (hs bs : List ℕ) (count k : ℕ) : Type 0 where
   pub within : k ≤ count
-  pub same : some t (rulesFrom hs bs k (count - k)) ≡ some t (rulesFrom hs bs 0 count)
+  pub same : anyOf t (rulesFrom hs bs k (count - k)) ≡ anyOf t (rulesFrom hs bs 0 count)
 
 module _ (t : WordRule → Bool) (hs bs : List ℕ) (count : ℕ) where
   pub passing-start : Passing t hs bs count 0
-  passing-start = let e : count - 0 ≡ count = omega arith in record { within = omega arith; same = ap (λ (n : ℕ). some t (rulesFrom hs bs 0 n)) e }
+  passing-start = let e : count - 0 ≡ count = omega arith in record { within = omega arith; same = ap (λ (n : ℕ). anyOf t (rulesFrom hs bs 0 n)) e }
 
   module _ (k : ℕ) (u : Passing t hs bs count k) where
     here : k < count → (b : Bool) → t (record { head = getD hs k 0; body = getD bs k 0 }) ≡ b
-        → _||_ b (some t (rulesFrom hs bs (k + 1) (count - (k + 1)))) ≡ some t (rulesFrom hs bs 0 count)
-    unfolding some
-    here h b e = sym (ap (λ (x : Bool). _||_ x (some t (rulesFrom hs bs (k + 1) (count - (k + 1))))) e) ∙ ap (some t) (sym (rules-one hs bs k count h)) ∙ u .same
+        → _||_ b (anyOf t (rulesFrom hs bs (k + 1) (count - (k + 1)))) ≡ anyOf t (rulesFrom hs bs 0 count)
+    unfolding anyOf
+    here h b e = sym (ap (λ (x : Bool). _||_ x (anyOf t (rulesFrom hs bs (k + 1) (count - (k + 1))))) e) ∙ ap (anyOf t) (sym (rules-one hs bs k count h)) ∙ u .same
 
-    pub passing-hit : (b : Bool) → k < count → b ≡ t (record { head = getD hs k 0; body = getD bs k 0 }) → b ≡ true → true ≡ some t (rulesFrom hs bs 0 count)
+    pub passing-hit : (b : Bool) → k < count → b ≡ t (record { head = getD hs k 0; body = getD bs k 0 }) → b ≡ true → true ≡ anyOf t (rulesFrom hs bs 0 count)
     passing-hit b h e y = here h true (sym e ∙ y)
 
     pub passing-miss : (b : Bool) → k < count → b ≡ t (record { head = getD hs k 0; body = getD bs k 0 }) → b ≡ false → Passing t hs bs count (k + 1)
     passing-miss b h e y = record { within = omega arith; same = here h false (sym e ∙ y) }
 
-    pub passing-done : count ≤ k → false ≡ some t (rulesFrom hs bs 0 count)
-    unfolding some
-    passing-done h = sym (ap (some t) (rules-none hs bs k (count - k) (omega arith))) ∙ u .same
+    pub passing-done : count ≤ k → false ≡ anyOf t (rulesFrom hs bs 0 count)
+    unfolding anyOf
+    passing-done h = sym (ap (anyOf t) (rules-none hs bs k (count - k) (omega arith))) ∙ u .same
 
 -- ---- what one member gives
 

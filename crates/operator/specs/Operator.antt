@@ -5,7 +5,7 @@ use lib.ListN.{length, getD}
 use mathlib.Core.Bool.{Bool, cond, _&&_}
 use mathlib.Core.List.{List, [], _∷_, flatMap}
 use mathlib.Core.Path.{_≡_}
-use Rattle.sets.specs.Lists.{some}
+use Rattle.sets.specs.Lists.{anyOf}
 use Rattle.sets.specs.Words.{inside, put}
 use Rattle.rising.specs.Literals.{literals}
 use Rattle.rising.specs.RisingSets.{gather}
@@ -46,7 +46,7 @@ bars i c = eqb (c .head) 0 && inside (c .body) i
 
 -- i contains some constraint's body
 abbrev pub barred : ℕ → List WordRule → Bool
-barred i Q = some (bars i) Q
+barred i Q = anyOf (bars i) Q
 
 -- ---- an answer with heads set aside
 

@@ -46,7 +46,7 @@ valid-is p a b e f = rw (← e, ← f)
 
 -- ---- what a valid table is, by name
 pub record NamesParts (xs : List ℕ) (n : ℕ) : Type 0 where
-  pub some : 1 ≤ n
+  pub one-up : 1 ≤ n
   pub few : n ≤ 12
   pub named : every isPlace (tabulate (place xs) n) ≡ true
   pub apart : distinct (tabulate (place xs) n) ≡ true
@@ -66,7 +66,7 @@ names-parts xs n h =
     let b = both-true (leb 1 n) (leb n 12) (a .0) in
     let c = both-true (every isPlace (tabulate (place xs) n) && distinct (tabulate (place xs) n)) (zeroFrom (8 * n) xs) (a .1) in
     let d = both-true (every isPlace (tabulate (place xs) n)) (distinct (tabulate (place xs) n)) (c .0) in
-    record { some = leb-true 1 n (b .0); few = leb-true n 12 (b .1); named = d .0; apart = d .1; blank = c .1 }
+    record { one-up = leb-true 1 n (b .0); few = leb-true n 12 (b .1); named = d .0; apart = d .1; blank = c .1 }
 
 clauses-parts : (hs bs ns : List ℕ) (count n : ℕ) → clausesValid hs bs ns count n ≡ true → ClausesParts hs bs ns count n
 unfolding clausesValid

@@ -3,7 +3,7 @@ ghost use mathlib.Core.Path.{_≡_};
 ghost use Prim.Native.Nat.{_+_, _%_, _≤_, _<_};
 ghost use lib.Dec.{eqb};
 ghost use lib.ListN.{take};
-ghost use Rattle.sets.specs.Lists.{every, some, onward, tabulate};
+ghost use Rattle.sets.specs.Lists.{every, anyOf, onward, tabulate};
 ghost use Rattle.lists.specs.Bytes.{same, distinct};
 ghost use Rattle.program.specs.Clauses.{clauseOf, rowsOf};
 ghost use Rattle.program.specs.Values.{isWord, valueIn};
@@ -171,7 +171,7 @@ fn same_places(names: &[u8; 96], i: usize, j: usize) -> bool
 // Whether the place `i` stands again behind it.
 fn repeated(names: &[u8; 96], n: usize, i: usize) -> bool
     requires { ⌜ (n ≤ 12) × (i < n) ⌝ }
-    ensures { λ r. ⌜ r ≡ some (same (place (now (names .entry)) i)) (onward (place (now (names .entry))) n (i + 1)) ⌝ }
+    ensures { λ r. ⌜ r ≡ anyOf (same (place (now (names .entry)) i)) (onward (place (now (names .entry))) n (i + 1)) ⌝ }
 {
     let mut j = i + 1;
     while j < n {

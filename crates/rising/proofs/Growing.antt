@@ -6,7 +6,7 @@ use mathlib.Core.List.{List, [], _++_}
 use mathlib.Core.Path.{_≡_, refl, sym, ap, ap₂, _∙_, subst}
 use native.Mathlib.Decide.{decLe}
 use native.Mathlib.Omega.{arith}
-use Rattle.sets.specs.Lists.{Rising, some}
+use Rattle.sets.specs.Lists.{Rising}
 use Rattle.rising.proofs.RisingSets.{addAll-++, addAll-longer, addAll-rising}
 use Rattle.rising.proofs.Slices.{size-fits, size-over, overlay-fits}
 use Rattle.rising.specs.Growing.{Grown}
@@ -57,21 +57,21 @@ pub grow-start : (xs left : List ℕ) (n : ℕ) → n ≤ length xs → Rising (
 grow-start xs left n h r = record { long = refl; most = omega arith; rises = λ k. r; whole = λ k. refl; over = λ k. absurd (omega arith) }
 
 -- some of what is left is put in by a callee
-pub grow-call : (room : ℕ) (all some left rest out out′ : List ℕ) (n r : ℕ) → Growing room all left out n → left ≡ some ++ rest → n ≤ room
-    → Grown (length out) (addAll some (take n out)) out′ r → length out′ ≡ length out → Growing room all rest out′ r
-grow-call room all some left rest out out′ n r g e h c l =
+pub grow-call : (room : ℕ) (all new left rest out out′ : List ℕ) (n r : ℕ) → Growing room all left out n → left ≡ new ++ rest → n ≤ room
+    → Grown (length out) (addAll new (take n out)) out′ r → length out′ ≡ length out → Growing room all rest out′ r
+grow-call room all new left rest out out′ n r g e h c l =
     let q : length out ≡ room = g .long in
-    let count : r ≡ size room (addAll some (take n out)) = c .count ∙ ap (λ (k : ℕ). size k (addAll some (take n out))) q in
-    let whole : addAll rest (addAll some (take n out)) ≡ all = sym (addAll-++ some rest (take n out)) ∙ ap (λ (x : List ℕ). addAll x (take n out)) (sym e) ∙ g .whole h in
+    let count : r ≡ size room (addAll new (take n out)) = c .count ∙ ap (λ (k : ℕ). size k (addAll new (take n out))) q in
+    let whole : addAll rest (addAll new (take n out)) ≡ all = sym (addAll-++ new rest (take n out)) ∙ ap (λ (x : List ℕ). addAll x (take n out)) (sym e) ∙ g .whole h in
     record {
       long = l ∙ q;
-      most = omega (arith, size≤ room (addAll some (take n out)));
-      rises = λ k. let f : length (addAll some (take n out)) ≤ room = size-small room (addAll some (take n out)) (omega arith) in
-          subst Rising (sym (c .words (omega arith))) (addAll-rising some (take n out) (g .rises h));
-      whole = λ k. let f : length (addAll some (take n out)) ≤ room = size-small room (addAll some (take n out)) (omega arith) in
+      most = omega (arith, size≤ room (addAll new (take n out)));
+      rises = λ k. let f : length (addAll new (take n out)) ≤ room = size-small room (addAll new (take n out)) (omega arith) in
+          subst Rising (sym (c .words (omega arith))) (addAll-rising new (take n out) (g .rises h));
+      whole = λ k. let f : length (addAll new (take n out)) ≤ room = size-small room (addAll new (take n out)) (omega arith) in
           ap (addAll rest) (c .words (omega arith)) ∙ whole;
-      over = λ k. let f : room < length (addAll some (take n out)) = size-large room (addAll some (take n out)) (omega arith) in
-          omega (arith, addAll-longer rest (addAll some (take n out)), ap length whole);
+      over = λ k. let f : room < length (addAll new (take n out)) = size-large room (addAll new (take n out)) (omega arith) in
+          omega (arith, addAll-longer rest (addAll new (take n out)), ap length whole);
     }
 
 -- nothing is left to put in

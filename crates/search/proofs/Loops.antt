@@ -11,7 +11,7 @@ use lib.Dec.{lit<, eqb, eqb·suc-zero}
 use lib.Bits.{bitAnd, bitOr, and-mod, and-zero-l, and-zero-r, and-le-l, and-le-r, or-zero-l, or-add-and}
 use lib.Pow.{shl-exact}
 use borrow.Author.Tests.{eqb-true, eqb-false, eq-eqb, ne-eqb}
-use Rattle.sets.specs.Lists.{some, upFrom, onward}
+use Rattle.sets.specs.Lists.{anyOf, upFrom, onward}
 use Rattle.sets.specs.Words.{Inside, inside, apart}
 use Rattle.sets.proofs.Tests.{dec}
 use Rattle.sets.proofs.Lists.{Lacks, lacks-start, lacks-not, lacks-more, lacks-done, onward-start}
@@ -26,9 +26,9 @@ use Rattle.search.proofs.Supported.{unsupported}
 
 -- ---- a loop that looks for a clause that passes
 module _ (t : List ℕ) (n : ℕ) (p : Clause → Bool) where
-  rows-from : some p (onward (packedAt t) n 0) ≡ some p (packedRows t n)
+  rows-from : anyOf p (onward (packedAt t) n 0) ≡ anyOf p (packedRows t n)
   unfolding packedRows
-  rows-from = ap (some p) (onward-start (packedAt t) n)
+  rows-from = ap (anyOf p) (onward-start (packedAt t) n)
 
   pub look-start : Lacks (packedAt t) n p 0 0
   look-start = lacks-start (packedAt t) n p 0
@@ -36,10 +36,10 @@ module _ (t : List ℕ) (n : ℕ) (p : Clause → Bool) where
   pub look-on : (i : ℕ) {r : Bool} → Lacks (packedAt t) n p 0 i → i < n → r ≡ p (packedAt t i) → r ≡ false → Lacks (packedAt t) n p 0 (i + 1)
   look-on i s h e q = lacks-more (packedAt t) n p 0 i s h (sym e ∙ q)
 
-  pub look-hit : (i : ℕ) {r : Bool} → Lacks (packedAt t) n p 0 i → i < n → r ≡ p (packedAt t i) → r ≡ true → true ≡ some p (packedRows t n)
+  pub look-hit : (i : ℕ) {r : Bool} → Lacks (packedAt t) n p 0 i → i < n → r ≡ p (packedAt t i) → r ≡ true → true ≡ anyOf p (packedRows t n)
   look-hit i s h e q = lacks-not (packedAt t) n p 0 i s h (sym e ∙ q) ∙ rows-from
 
-  pub look-none : (i : ℕ) → Lacks (packedAt t) n p 0 i → n ≤ i → false ≡ some p (packedRows t n)
+  pub look-none : (i : ℕ) → Lacks (packedAt t) n p 0 i → n ≤ i → false ≡ anyOf p (packedRows t n)
   look-none i s h = lacks-done (packedAt t) n p 0 i s h ∙ rows-from
 
 -- ---- the node test: every undecided bit is put into the word
@@ -63,10 +63,10 @@ dead-test : (k w : ℕ) → w % 2 ^ k ≡ 0 → (c : Clause) → rulesOut (w + (
 unfolding rulesOut deadBy
 dead-test k w z c = rw (in-settled k w (c .body) z, out-settled k w (c .naf) z, out-settled k w (c .head) z)
 
-pub node-tested : (P : List Clause) (k w : ℕ) {reach : ℕ} {r : Bool} → Placed k w → reach ≡ w + (2 ^ k - 1) → r ≡ some (rulesOut reach w reach) P → r ≡ dead P k w
+pub node-tested : (P : List Clause) (k w : ℕ) {reach : ℕ} {r : Bool} → Placed k w → reach ≡ w + (2 ^ k - 1) → r ≡ anyOf (rulesOut reach w reach) P → r ≡ dead P k w
 unfolding dead
 node-tested P k w {reach} p e q =
-    q ∙ ap (λ (x : ℕ). some (rulesOut x w x) P) e ∙ ap (λ (f : Clause → Bool). some f P) (fun-ext (dead-test k w (p .low)))
+    q ∙ ap (λ (x : ℕ). anyOf (rulesOut x w x) P) e ∙ ap (λ (f : Clause → Bool). anyOf f P) (fun-ext (dead-test k w (p .low)))
 
 -- ---- several words are zero where their union is
 or-zero : (a b : ℕ) → eqb (bitOr a b) 0 ≡ eqb a 0 && eqb b 0

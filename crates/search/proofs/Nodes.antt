@@ -10,7 +10,7 @@ use lib.Pow.{mod-mod-pow, pow-pos, ones-lt, split}
 use lib.Bits.{bitAnd, and-block, and-zero-l, and-zero-r, and-mask}
 use lib.ListN.{length, length-append}
 use borrow.Author.Tests.{eqb-true, eq-eqb}
-use Rattle.sets.specs.Lists.{some, sift, upFrom, tabulate, below}
+use Rattle.sets.specs.Lists.{anyOf, sift, upFrom, tabulate, below}
 use Rattle.sets.specs.Words.{inside, apart}
 use Rattle.sets.proofs.Tests.{clash, both-true, and-is-true}
 use Rattle.sets.proofs.Lists.{upFrom-add, upFrom-in, sift-append, sift-none}
@@ -59,11 +59,11 @@ module _ (k w r : ℕ) (z : w % 2 ^ k ≡ 0) (h : r < 2 ^ k) where
       and-is-true _ _ (and-is-true _ _ (in-below (c .body) (a .0)) (out-below (c .naf) (a .1))) (out-below (c .head) (b .1))
 
   no-model-below : (P : List Clause) → dead P k w ≡ true → isModel (reduct P (w + r)) (w + r) ≡ false
-  unfolding dead some
+  unfolding dead anyOf
   no-model-below [] t = clash false t refl
   no-model-below (c ∷ P) t = model-cons c P (w + r) (w + r) ∙ go (deadBy k w c) refl t (no-model-below P)
     where
-      go : (b : Bool) → deadBy k w c ≡ b → b || some (deadBy k w) P ≡ true → (some (deadBy k w) P ≡ true → isModel (reduct P (w + r)) (w + r) ≡ false)
+      go : (b : Bool) → deadBy k w c ≡ b → b || anyOf (deadBy k w) P ≡ true → (anyOf (deadBy k w) P ≡ true → isModel (reduct P (w + r)) (w + r) ≡ false)
           → not (violates (w + r) (w + r) c) && isModel (reduct P (w + r)) (w + r) ≡ false
       go true e t f = rw (violated-below c e)
       go false e t f = rw (f t) (and-false (not (violates (w + r) (w + r) c)))
@@ -85,7 +85,7 @@ not-or true b = refl
 not-or false b = refl
 
 pub live-leaf : (P : List Clause) (w : ℕ) → isModel (reduct P w) w ≡ not (dead P 0 w)
-unfolding dead some isModel reduct
+unfolding dead anyOf isModel reduct
 live-leaf [] w = refl
 live-leaf (c ∷ P) w = model-cons c P w w ∙ rw (live-leaf P w, dead-one w c) (sym (not-or (violates w w c) (dead P 0 w)))
 

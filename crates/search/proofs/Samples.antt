@@ -1,7 +1,7 @@
 -- Document 01's two counts of nodes, and the runs around them, computed. Assumes nothing.
 use mathlib.Core.Path.{_≡_, refl}
 use mathlib.Core.List.{List, [], _∷_}
-use Rattle.sets.specs.Lists.{some}
+use Rattle.sets.specs.Lists.{anyOf}
 use Rattle.program.specs.Clauses.{Clause}
 use Rattle.program.specs.Values.{wordOf, clauseOfValues, wordBy, bitsOf}
 use Rattle.semantics.specs.Books.{book, ⟨_·_⟩, clausesOf}
@@ -37,7 +37,7 @@ fell-exit = refl
 
 -- "a with no clause gives 0; N is 7"
 pub no-clause-nodes : nodeCount (dead []) 1 ≡ 7
-unfolding nodes dead some
+unfolding nodes dead anyOf
 no-clause-nodes = refl
 
 -- no allowance: spent, with none visited

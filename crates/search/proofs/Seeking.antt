@@ -12,7 +12,7 @@ use borrow.Author.Tests.{lt-ltb, le-ltb, ltb-true, ltb-false}
 use Rattle.search.specs.declared.Outcome.the-variants.{Full, Spent}
 use Rattle.search.specs.Tree.{Node, node, Dead, nodes}
 use Rattle.search.specs.Answer.{answer}
-use Rattle.search.specs.Seek.{none, spent, fromWord, sought, after}
+use Rattle.search.specs.Seek.{noLeaf, spent, fromWord, sought, after}
 use Rattle.search.proofs.Machine.{state, on, step, runs, runs-ended, step-spent, step-miss, step-hit, step-full}
 
 -- ---- every node of xs passes a test of its word
@@ -75,28 +75,28 @@ fromWord-none x (y ∷ ys) a = rw (lt-ltb (y .word) x (a .0), fromWord-none x ys
 
 -- ---- the search and what it seeks
 module _ (hit : Node → Bool) (A : ℕ) where
-  pub sought-append : (xs ys : List Node) (v : ℕ) → All (λ u. u < 2 ^ 24) xs → sought hit A xs v ≡ none
+  pub sought-append : (xs ys : List Node) (v : ℕ) → All (λ u. u < 2 ^ 24) xs → sought hit A xs v ≡ noLeaf
       → (sought hit A (xs ++ ys) v ≡ sought hit A ys (after hit A xs v)) × (after hit A (xs ++ ys) v ≡ after hit A ys (after hit A xs v))
   unfolding sought after All
   sought-append [] ys v a e = (refl, refl)
   sought-append (x ∷ xs) ys v a e = go (ltb v A) (hit x) e (sought-append xs ys (v + 1) (a .1))
     where
-      go : (b c : Bool) → cond b (cond c (x .word) (sought hit A xs (v + 1))) spent ≡ none
-          → (sought hit A xs (v + 1) ≡ none → (sought hit A (xs ++ ys) (v + 1) ≡ sought hit A ys (after hit A xs (v + 1))) × (after hit A (xs ++ ys) (v + 1) ≡ after hit A ys (after hit A xs (v + 1))))
+      go : (b c : Bool) → cond b (cond c (x .word) (sought hit A xs (v + 1))) spent ≡ noLeaf
+          → (sought hit A xs (v + 1) ≡ noLeaf → (sought hit A (xs ++ ys) (v + 1) ≡ sought hit A ys (after hit A xs (v + 1))) × (after hit A (xs ++ ys) (v + 1) ≡ after hit A ys (after hit A xs (v + 1))))
           → (cond b (cond c (x .word) (sought hit A (xs ++ ys) (v + 1))) spent ≡ sought hit A ys (cond b (cond c (v + 1) (after hit A xs (v + 1))) v))
           × (cond b (cond c (v + 1) (after hit A (xs ++ ys) (v + 1))) v ≡ after hit A ys (cond b (cond c (v + 1) (after hit A xs (v + 1))) v))
       go true true e r = absurd (omega (arith, a .0))
       go true false e r = r e
       go false c e r = absurd (omega arith)
 
-  pub sought-first : (xs ys : List Node) (v : ℕ) → (sought hit A xs v ≡ none → ⊥)
+  pub sought-first : (xs ys : List Node) (v : ℕ) → (sought hit A xs v ≡ noLeaf → ⊥)
       → (sought hit A (xs ++ ys) v ≡ sought hit A xs v) × (after hit A (xs ++ ys) v ≡ after hit A xs v)
   unfolding sought after
   sought-first [] ys v e = absurd (e refl)
   sought-first (x ∷ xs) ys v e = go (ltb v A) (hit x) e (sought-first xs ys (v + 1))
     where
-      go : (b c : Bool) → (cond b (cond c (x .word) (sought hit A xs (v + 1))) spent ≡ none → ⊥)
-          → ((sought hit A xs (v + 1) ≡ none → ⊥) → (sought hit A (xs ++ ys) (v + 1) ≡ sought hit A xs (v + 1)) × (after hit A (xs ++ ys) (v + 1) ≡ after hit A xs (v + 1)))
+      go : (b c : Bool) → (cond b (cond c (x .word) (sought hit A xs (v + 1))) spent ≡ noLeaf → ⊥)
+          → ((sought hit A xs (v + 1) ≡ noLeaf → ⊥) → (sought hit A (xs ++ ys) (v + 1) ≡ sought hit A xs (v + 1)) × (after hit A (xs ++ ys) (v + 1) ≡ after hit A xs (v + 1)))
           → (cond b (cond c (x .word) (sought hit A (xs ++ ys) (v + 1))) spent ≡ cond b (cond c (x .word) (sought hit A xs (v + 1))) spent)
           × (cond b (cond c (v + 1) (after hit A (xs ++ ys) (v + 1))) v ≡ cond b (cond c (v + 1) (after hit A xs (v + 1))) v)
       go true true e r = (refl, refl)
@@ -169,13 +169,13 @@ behind x xs a = rw (lt-ltb (x .word) (x .word + 1) (omega arith)) (fromWord-all 
 
 -- ---- one turn: no hit, the allowance spent, a hit
 module _ (hit : Node → Bool) (A n : ℕ) (l : List ℕ) where
-  pub runs-none : (xs : List Node) (v : ℕ) → All (λ u. u < 2 ^ 24) xs → sought hit A xs v ≡ none → runs hit A xs (on n v l) ≡ on n (after hit A xs v) l
+  pub runs-none : (xs : List Node) (v : ℕ) → All (λ u. u < 2 ^ 24) xs → sought hit A xs v ≡ noLeaf → runs hit A xs (on n v l) ≡ on n (after hit A xs v) l
   unfolding runs sought after All
   runs-none [] v a e = refl
   runs-none (x ∷ xs) v a e = go (ltb v A) (hit x) refl refl e (runs-none xs (v + 1) (a .1))
     where
-      go : (b c : Bool) → ltb v A ≡ b → hit x ≡ c → cond b (cond c (x .word) (sought hit A xs (v + 1))) spent ≡ none
-          → (sought hit A xs (v + 1) ≡ none → runs hit A xs (on n (v + 1) l) ≡ on n (after hit A xs (v + 1)) l)
+      go : (b c : Bool) → ltb v A ≡ b → hit x ≡ c → cond b (cond c (x .word) (sought hit A xs (v + 1))) spent ≡ noLeaf
+          → (sought hit A xs (v + 1) ≡ noLeaf → runs hit A xs (on n (v + 1) l) ≡ on n (after hit A xs (v + 1)) l)
           → runs hit A xs (step hit A x (on n v l)) ≡ on n (cond b (cond c (v + 1) (after hit A xs (v + 1))) v) l
       go true true p q e r = absurd (omega (arith, a .0))
       go true false p q e r = ap (runs hit A xs) (step-miss hit A x n v l (ltb-true _ _ p) q) ∙ r e
@@ -193,51 +193,51 @@ module _ (hit : Node → Bool) (A n : ℕ) (l : List ℕ) where
       go true false p q e r = ap (runs hit A xs) (step-miss hit A x n v l (ltb-true _ _ p) q) ∙ r e
       go false c p q e r = ap (runs hit A xs) (step-spent hit A x n v l (ltb-false _ _ p)) ∙ runs-ended hit A xs (state (answer Spent n v) l) refl
 
-  pub runs-full : (xs : List Node) (v : ℕ) → (sought hit A xs v ≡ none → ⊥) → (sought hit A xs v ≡ spent → ⊥) → length l ≤ n
+  pub runs-full : (xs : List Node) (v : ℕ) → (sought hit A xs v ≡ noLeaf → ⊥) → (sought hit A xs v ≡ spent → ⊥) → length l ≤ n
       → runs hit A xs (on n v l) ≡ state (answer Full n (after hit A xs v)) l
   unfolding runs sought after
   runs-full [] v e f h = absurd (e refl)
   runs-full (x ∷ xs) v e f h = go (ltb v A) (hit x) refl refl e f (λ e f. runs-full xs (v + 1) e f h)
     where
-      go : (b c : Bool) → ltb v A ≡ b → hit x ≡ c → (cond b (cond c (x .word) (sought hit A xs (v + 1))) spent ≡ none → ⊥) → (cond b (cond c (x .word) (sought hit A xs (v + 1))) spent ≡ spent → ⊥)
-          → ((sought hit A xs (v + 1) ≡ none → ⊥) → (sought hit A xs (v + 1) ≡ spent → ⊥) → runs hit A xs (on n (v + 1) l) ≡ state (answer Full n (after hit A xs (v + 1))) l)
+      go : (b c : Bool) → ltb v A ≡ b → hit x ≡ c → (cond b (cond c (x .word) (sought hit A xs (v + 1))) spent ≡ noLeaf → ⊥) → (cond b (cond c (x .word) (sought hit A xs (v + 1))) spent ≡ spent → ⊥)
+          → ((sought hit A xs (v + 1) ≡ noLeaf → ⊥) → (sought hit A xs (v + 1) ≡ spent → ⊥) → runs hit A xs (on n (v + 1) l) ≡ state (answer Full n (after hit A xs (v + 1))) l)
           → runs hit A xs (step hit A x (on n v l)) ≡ state (answer Full n (cond b (cond c (v + 1) (after hit A xs (v + 1))) v)) l
       go true true p q e f r = ap (runs hit A xs) (step-full hit A x n v l (ltb-true _ _ p) q h) ∙ runs-ended hit A xs (state (answer Full n (v + 1)) l) refl
       go true false p q e f r = ap (runs hit A xs) (step-miss hit A x n v l (ltb-true _ _ p) q) ∙ r e f
       go false c p q e f r = absurd (f refl)
 
   -- the first hit is not below what bounds all nodes
-  pub sought-above : (xs : List Node) (c v : ℕ) → All (λ u. c ≤ u) xs → (sought hit A xs v ≡ none → ⊥) → (sought hit A xs v ≡ spent → ⊥) → c ≤ sought hit A xs v
+  pub sought-above : (xs : List Node) (c v : ℕ) → All (λ u. c ≤ u) xs → (sought hit A xs v ≡ noLeaf → ⊥) → (sought hit A xs v ≡ spent → ⊥) → c ≤ sought hit A xs v
   unfolding sought All
   sought-above [] c v a e f = absurd (e refl)
   sought-above (x ∷ xs) c v a e f = go (ltb v A) (hit x) e f (sought-above xs c (v + 1) (a .1))
     where
-      go : (b d : Bool) → (cond b (cond d (x .word) (sought hit A xs (v + 1))) spent ≡ none → ⊥) → (cond b (cond d (x .word) (sought hit A xs (v + 1))) spent ≡ spent → ⊥)
-          → ((sought hit A xs (v + 1) ≡ none → ⊥) → (sought hit A xs (v + 1) ≡ spent → ⊥) → c ≤ sought hit A xs (v + 1)) → c ≤ cond b (cond d (x .word) (sought hit A xs (v + 1))) spent
+      go : (b d : Bool) → (cond b (cond d (x .word) (sought hit A xs (v + 1))) spent ≡ noLeaf → ⊥) → (cond b (cond d (x .word) (sought hit A xs (v + 1))) spent ≡ spent → ⊥)
+          → ((sought hit A xs (v + 1) ≡ noLeaf → ⊥) → (sought hit A xs (v + 1) ≡ spent → ⊥) → c ≤ sought hit A xs (v + 1)) → c ≤ cond b (cond d (x .word) (sought hit A xs (v + 1))) spent
       go true true e f r = a .0
       go true false e f r = r e f
       go false d e f r = absurd (f refl)
 
-  pub sought-below : (xs : List Node) (c v : ℕ) → All (λ u. u < c) xs → (sought hit A xs v ≡ none → ⊥) → (sought hit A xs v ≡ spent → ⊥) → sought hit A xs v < c
+  pub sought-below : (xs : List Node) (c v : ℕ) → All (λ u. u < c) xs → (sought hit A xs v ≡ noLeaf → ⊥) → (sought hit A xs v ≡ spent → ⊥) → sought hit A xs v < c
   unfolding sought All
   sought-below [] c v a e f = absurd (e refl)
   sought-below (x ∷ xs) c v a e f = go (ltb v A) (hit x) e f (sought-below xs c (v + 1) (a .1))
     where
-      go : (b d : Bool) → (cond b (cond d (x .word) (sought hit A xs (v + 1))) spent ≡ none → ⊥) → (cond b (cond d (x .word) (sought hit A xs (v + 1))) spent ≡ spent → ⊥)
-          → ((sought hit A xs (v + 1) ≡ none → ⊥) → (sought hit A xs (v + 1) ≡ spent → ⊥) → sought hit A xs (v + 1) < c) → cond b (cond d (x .word) (sought hit A xs (v + 1))) spent < c
+      go : (b d : Bool) → (cond b (cond d (x .word) (sought hit A xs (v + 1))) spent ≡ noLeaf → ⊥) → (cond b (cond d (x .word) (sought hit A xs (v + 1))) spent ≡ spent → ⊥)
+          → ((sought hit A xs (v + 1) ≡ noLeaf → ⊥) → (sought hit A xs (v + 1) ≡ spent → ⊥) → sought hit A xs (v + 1) < c) → cond b (cond d (x .word) (sought hit A xs (v + 1))) spent < c
       go true true e f r = a .0
       go true false e f r = r e f
       go false d e f r = absurd (f refl)
 
   -- it is written, and the search goes on behind it
-  pub runs-found : (xs : List Node) (v : ℕ) → ((x : Node) → hit x ≡ true → x .undecided ≡ 0) → Ordered xs → (sought hit A xs v ≡ none → ⊥) → (sought hit A xs v ≡ spent → ⊥) → n < length l
+  pub runs-found : (xs : List Node) (v : ℕ) → ((x : Node) → hit x ≡ true → x .undecided ≡ 0) → Ordered xs → (sought hit A xs v ≡ noLeaf → ⊥) → (sought hit A xs v ≡ spent → ⊥) → n < length l
       → runs hit A xs (on n v l) ≡ runs hit A (fromWord (sought hit A xs v + 1) xs) (on (n + 1) (after hit A xs v) (set l n (sought hit A xs v)))
   unfolding runs sought after Ordered fromWord
   runs-found [] v i o e f h = absurd (e refl)
   runs-found (x ∷ xs) v i o e f h = go (ltb v A) (hit x) refl refl e f (λ e f. runs-found xs (v + 1) i (o .2) e f h)
     where
-      go : (b c : Bool) → ltb v A ≡ b → hit x ≡ c → (cond b (cond c (x .word) (sought hit A xs (v + 1))) spent ≡ none → ⊥) → (cond b (cond c (x .word) (sought hit A xs (v + 1))) spent ≡ spent → ⊥)
-          → ((sought hit A xs (v + 1) ≡ none → ⊥) → (sought hit A xs (v + 1) ≡ spent → ⊥)
+      go : (b c : Bool) → ltb v A ≡ b → hit x ≡ c → (cond b (cond c (x .word) (sought hit A xs (v + 1))) spent ≡ noLeaf → ⊥) → (cond b (cond c (x .word) (sought hit A xs (v + 1))) spent ≡ spent → ⊥)
+          → ((sought hit A xs (v + 1) ≡ noLeaf → ⊥) → (sought hit A xs (v + 1) ≡ spent → ⊥)
           → runs hit A xs (on n (v + 1) l) ≡ runs hit A (fromWord (sought hit A xs (v + 1) + 1) xs) (on (n + 1) (after hit A xs (v + 1)) (set l n (sought hit A xs (v + 1)))))
           → runs hit A xs (step hit A x (on n v l))
           ≡ runs hit A (fromWord (cond b (cond c (x .word) (sought hit A xs (v + 1))) spent + 1) (x ∷ xs))

@@ -9,7 +9,7 @@ use native.Mathlib.Omega.{arith}
 use lib.Dec.{T, eqb}
 use lib.Bits.{bitOr, and-zero-l, or-zero-l, or-zero-r}
 use borrow.Author.Tests.{eqb-true, eqb-false, eq-eqb, ne-eqb}
-use Rattle.sets.specs.Lists.{_∈_, every, some, sift, below}
+use Rattle.sets.specs.Lists.{_∈_, every, anyOf, sift, below}
 use Rattle.sets.specs.Words.{bit, Inside, Apart, inside, apart, Highest}
 use Rattle.sets.specs.Least.{least}
 use Rattle.sets.proofs.Tests.{dec, clash, both-true, and-is-true}
@@ -42,17 +42,17 @@ module _ (R t : ℕ) (h : Highest R t) (J : ℕ) where
   in-inside I s = inside-bits (bitOr (bitOr J t) (R - t)) I .1 (λ i u. inside-bits (bitOr J R) I .0 s i (in-wider R t h J i u))
 
 -- ---- a clause that is violated by all between
-pub model-some : (P : List Clause) (I w : ℕ) → isModel (reduct P I) w ≡ not (some (violates I w) P)
-unfolding some isModel reduct every sift
+pub model-some : (P : List Clause) (I w : ℕ) → isModel (reduct P I) w ≡ not (anyOf (violates I w) P)
+unfolding anyOf isModel reduct every sift
 model-some [] I w = refl
-model-some (c ∷ P) I w = model-cons c P I w ∙ rw (model-some P I w) (go (violates I w c) (some (violates I w) P))
+model-some (c ∷ P) I w = model-cons c P I w ∙ rw (model-some P I w) (go (violates I w c) (anyOf (violates I w) P))
   where
     go : (a b : Bool) → not a && not b ≡ not (a || b)
     go true b = refl
     go false b = refl
 
-in-some : {A : Type 0} (p : A → Bool) (l : List A) (x : A) → x ∈ l → p x ≡ true → some p l ≡ true
-in-some p l x m t = ⊎-elim (λ e. e) (λ f. clash (p x) t (none-each p l f x m)) (dec (some p l))
+in-some : {A : Type 0} (p : A → Bool) (l : List A) (x : A) → x ∈ l → p x ≡ true → anyOf p l ≡ true
+in-some p l x m t = ⊎-elim (λ e. e) (λ f. clash (p x) t (none-each p l f x m)) (dec (anyOf p l))
 
 module _ (P : List Clause) (I : ℕ) where
   violated : (J R K : ℕ) (c : Clause) → Between J R K → rulesOut I J (bitOr J R) c ≡ true → violates I K c ≡ true
@@ -64,7 +64,7 @@ module _ (P : List Clause) (I : ℕ) where
       (and-is-true _ _ (eq-eqb _ _ (inside-trans (c .body) J K (eqb-true _ _ (q .0)) (inside-bits J K .1 (b .holds)))) (q .1))
       (eq-eqb _ _ (apart-within (c .head) K (bitOr J R) (eqb-true _ _ (p .1)) (inside-bits K (bitOr J R) .1 (b .within))))
 
-  cut : (J R K : ℕ) → some (rulesOut I J (bitOr J R)) P ≡ true → Between J R K → isModel (reduct P I) K ≡ false
+  cut : (J R K : ℕ) → anyOf (rulesOut I J (bitOr J R)) P ≡ true → Between J R K → isModel (reduct P I) K ≡ false
   cut J R K h b =
       let s = some-in (rulesOut I J (bitOr J R)) P h in
       model-some P I K ∙ ap not (in-some (violates I K) P (s .0) (s .1) (violated J R K (s .0) b (s .2)))
@@ -99,16 +99,16 @@ module _ (P : List Clause) (I : ℕ) where
   none J R f = ⊎-elim (λ t. absurd (f (finds J R t))) (λ e. e) (dec (smallerBetween P I J R))
 
   -- ---- the ways that the routine returns
-  pub branch-cut : (J R : ℕ) {r : Bool} → r ≡ some (rulesOut I J (bitOr J R)) P → r ≡ true → false ≡ smallerBetween P I J R
+  pub branch-cut : (J R : ℕ) {r : Bool} → r ≡ anyOf (rulesOut I J (bitOr J R)) P → r ≡ true → false ≡ smallerBetween P I J R
   branch-cut J R e t = sym (none J R (λ s. clash (isModel (reduct P I) (s .word)) (s .model) (cut J R (s .word) (sym e ∙ t) (s .between))))
 
-  module _ (J R : ℕ) {r : Bool} (e : r ≡ some (rulesOut I J (bitOr J R)) P) (f : r ≡ false) (z : R ≡ 0) (s : Inside (bitOr J R) I) where
+  module _ (J R : ℕ) {r : Bool} (e : r ≡ anyOf (rulesOut I J (bitOr J R)) P) (f : r ≡ false) (z : R ≡ 0) (s : Inside (bitOr J R) I) where
     all-decided : bitOr J R ≡ J
     all-decided = ap (bitOr J) z ∙ or-zero-r J
 
     itself : isModel (reduct P I) J ≡ true
     unfolding rulesOut violates
-    itself = model-some P I J ∙ ap not (ap (λ (x : ℕ). some (λ (c : Clause). inside (c .body) J && apart (c .naf) I && apart (c .head) x) P) (sym all-decided) ∙ sym e ∙ f)
+    itself = model-some P I J ∙ ap not (ap (λ (x : ℕ). anyOf (λ (c : Clause). inside (c .body) J && apart (c .naf) I && apart (c .head) x) P) (sym all-decided) ∙ sym e ∙ f)
 
     pub branch-end : not (eqb J I) ≡ smallerBetween P I J R
     branch-end = ⊎-elim

@@ -9,7 +9,7 @@ use Rattle.search.specs.declared.Outcome.the-variants.{Complete, Full, S
 use Rattle.search.specs.declared.SearchAnswer.{SearchAnswer}
 use Rattle.search.specs.Tree.{Dead, tree, isStableLeaf}
 use Rattle.search.specs.Answer.{answer, Ends}
-use Rattle.search.specs.Seek.{Sought, none, spent, fromWord}
+use Rattle.search.specs.Seek.{Sought, noLeaf, spent, fromWord}
 use Rattle.search.proofs.Machine.{state, on, runs, runs-answer}
 use Rattle.search.proofs.Seeking.{all-map, nodes-between, fromWord-all, ordered-nodes, ordered-fromWord, fromWord-fromWord, all-from, runs-none, runs-spent, runs-full, runs-found, sought-above, sought-below}
 use Rattle.search.proofs.Visits.{small-words, placed-root, leaf-undecided}
@@ -35,13 +35,13 @@ module _ (D : Dead) (P : List Clause) (A n : ℕ) (l₀ : List ℕ) where
   }
 
   module _ (x m v : ℕ) (l : List ℕ) (g : Searching D P A n l₀ x m v l) (few : n ≤ 12) (r v′ : ℕ) (s : Sought (isStableLeaf D P) A x (tree D n) v r v′) where
-    pub turn-none : {a : SearchAnswer} → r ≡ none → a ≡ answer Complete m v′ → Ends D P n A l₀ a l
+    pub turn-none : {a : SearchAnswer} → r ≡ noLeaf → a ≡ answer Complete m v′ → Ends D P n A l₀ a l
     turn-none h y = ended (answer Complete m v′) l y (sym (sym (g .same) ∙ runs-none (isStableLeaf D P) A m l (fromWord x (tree D n)) v (small-words D x (2 * n) 0 (placed-root n few)) (sym (s .word) ∙ h) ∙ rw (← s .nodes)))
 
     pub turn-spent : {a : SearchAnswer} → r ≡ spent → a ≡ answer Spent m v′ → Ends D P n A l₀ a l
     turn-spent h y = ended (answer Spent m v′) l y (sym (sym (g .same) ∙ runs-spent (isStableLeaf D P) A m l (fromWord x (tree D n)) v (small-words D x (2 * n) 0 (placed-root n few)) (sym (s .word) ∙ h) ∙ rw (← s .nodes)))
 
-    module _ (p : r ≡ none → ⊥) (q : r ≡ spent → ⊥) where
+    module _ (p : r ≡ noLeaf → ⊥) (q : r ≡ spent → ⊥) where
       pub turn-full : {a : SearchAnswer} → length l ≤ m → a ≡ answer Full m v′ → Ends D P n A l₀ a l
       turn-full h y = ended (answer Full m v′) l y (sym (sym (g .same) ∙ runs-full (isStableLeaf D P) A m l (fromWord x (tree D n)) v (λ e. p (s .word ∙ e)) (λ e. q (s .word ∙ e)) h ∙ rw (← s .nodes)))
 

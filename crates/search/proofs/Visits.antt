@@ -14,7 +14,7 @@ use Rattle.sets.proofs.Tests.{dec, both-true}
 use Rattle.program.specs.Clauses.{Clause}
 use Rattle.semantics.specs.Interpretations.{isStable}
 use Rattle.search.specs.Tree.{Node, node, Dead, dead, nodes, isStableLeaf}
-use Rattle.search.specs.Seek.{stops, counted, Ticked, Sought, Placed, none, spent, fromWord, sought, after}
+use Rattle.search.specs.Seek.{stops, counted, Ticked, Sought, Placed, noLeaf, spent, fromWord, sought, after}
 use Rattle.search.proofs.Nodes.{low-out, low-in}
 use Rattle.search.proofs.Seeking.{All, all-map, all-fromWord, nodes-between, fromWord-append, fromWord-none, sought-append, sought-first}
 
@@ -112,7 +112,7 @@ pub small-words : (D : Dead) (x k w : ℕ) → Placed k w → All (λ u. u < 2 ^
 small-words D x k w p = all-fromWord _ x (nodes D k w) (all-map _ _ (λ u h. omega (arith, p .fits)) (nodes D k w) (nodes-between D k w))
 
 module _ (D : Dead) (P : List Clause) (A x k w v : ℕ) where
-  pub seek-passed : {reach : ℕ} → reach ≡ w + (2 ^ k - 1) → reach < x → Sought (isStableLeaf D P) A x (nodes D k w) v none v
+  pub seek-passed : {reach : ℕ} → reach ≡ w + (2 ^ k - 1) → reach < x → Sought (isStableLeaf D P) A x (nodes D k w) v noLeaf v
   unfolding sought after
   seek-passed e h =
       let z : fromWord x (nodes D k w) ≡ [] = fromWord-none x (nodes D k w) (all-map _ _ (λ u m. omega (arith, pow-pos k)) (nodes D k w) (nodes-between D k w)) in
@@ -162,14 +162,14 @@ module _ (D : Dead) (P : List Clause) (A x k w v : ℕ) where
         → (sought (isStableLeaf D P) A (fromWord x (nodes D k w)) v ≡ sought (isStableLeaf D P) A (fromWord x (below D k w)) v′) × (after (isStableLeaf D P) A (fromWord x (nodes D k w)) v ≡ after (isStableLeaf D P) A (fromWord x (below D k w)) v′)
     past e m = rw (nodes-below D k w) (node-passed s v′ t (below D k w) e m)
 
-    ends-here : s ≡ false → isStableLeaf D P (node k w) ≡ false → below D k w ≡ [] → Sought (isStableLeaf D P) A x (nodes D k w) v none v′
+    ends-here : s ≡ false → isStableLeaf D P (node k w) ≡ false → below D k w ≡ [] → Sought (isStableLeaf D P) A x (nodes D k w) v noLeaf v′
     unfolding sought after fromWord
     ends-here e m z = let r = past e m in record { word = sym (r .0 ∙ rw z); nodes = sym (r .1 ∙ rw z) }
 
-    pub seek-dead : {d : Bool} → s ≡ false → d ≡ D k w → d ≡ true → Sought (isStableLeaf D P) A x (nodes D k w) v none v′
+    pub seek-dead : {d : Bool} → s ≡ false → d ≡ D k w → d ≡ true → Sought (isStableLeaf D P) A x (nodes D k w) v noLeaf v′
     seek-dead e q h = let d = sym q ∙ h in ends-here e (dead-no-leaf D P k w d) (below-dead D k w d)
 
-    pub seek-unstable : {r d : Bool} → s ≡ false → d ≡ D k w → d ≡ false → k ≡ 0 → r ≡ isStable P w → r ≡ false → Sought (isStableLeaf D P) A x (nodes D k w) v none v′
+    pub seek-unstable : {r d : Bool} → s ≡ false → d ≡ D k w → d ≡ false → k ≡ 0 → r ≡ isStable P w → r ≡ false → Sought (isStableLeaf D P) A x (nodes D k w) v noLeaf v′
     unfolding below
     seek-unstable e p m z q h = ends-here e (leaf-is D P k w z (sym p ∙ m) ∙ sym q ∙ h) (rw z)
 
@@ -184,13 +184,13 @@ module _ (D : Dead) (P : List Clause) (A x k w v : ℕ) where
     split e z d = rw (← fromWord-append x (nodes D (k - 1) w) (nodes D (k - 1) (w + 2 ^ (k - 1))), ← below-live D k w z d) (past e (inner-no-leaf D P k w z))
 
     module _ (r v₁ : ℕ) (e : s ≡ false) (z : k ≡ 0 → ⊥) (d : D k w ≡ false) (first : Sought (isStableLeaf D P) A x (nodes D (k - 1) w) v′ r v₁) where
-      pub seek-first : (r ≡ none → ⊥) → Sought (isStableLeaf D P) A x (nodes D k w) v r v₁
+      pub seek-first : (r ≡ noLeaf → ⊥) → Sought (isStableLeaf D P) A x (nodes D k w) v r v₁
       seek-first h =
           let p = split e z d in
           let f = sought-first (isStableLeaf D P) A (fromWord x (nodes D (k - 1) w)) (fromWord x (nodes D (k - 1) (w + 2 ^ (k - 1)))) v′ (λ q. h (first .word ∙ q)) in
           record { word = first .word ∙ sym (p .0 ∙ f .0); nodes = first .nodes ∙ sym (p .1 ∙ f .1) }
 
-      pub seek-second : (c r₂ v₂ : ℕ) → Placed k w → r ≡ none → c ≡ w + 2 ^ (k - 1) → Sought (isStableLeaf D P) A x (nodes D (k - 1) c) v₁ r₂ v₂ → Sought (isStableLeaf D P) A x (nodes D k w) v r₂ v₂
+      pub seek-second : (c r₂ v₂ : ℕ) → Placed k w → r ≡ noLeaf → c ≡ w + 2 ^ (k - 1) → Sought (isStableLeaf D P) A x (nodes D (k - 1) c) v₁ r₂ v₂ → Sought (isStableLeaf D P) A x (nodes D k w) v r₂ v₂
       seek-second c r₂ v₂ pl h q second =
           let p = split e z d in
           let f = sought-append (isStableLeaf D P) A (fromWord x (nodes D (k - 1) w)) (fromWord x (nodes D (k - 1) (w + 2 ^ (k - 1)))) v′ (small-words D x (k - 1) w (placed-out k w pl z)) (sym (first .word) ∙ h) in

@@ -59,8 +59,11 @@ abbrev pub nodesOf : Program → List Node
 nodesOf p = tree (dead (clauses p)) (p .«atom_count»)
 
 -- "the search [meets] 9"
+abbrev pub refusals : Program → List (ℕ × Bool)
+refusals p = (9, not (valid p)) ∷ []
+
 unfoldable pub refusal : Program → ℕ
-refusal p = lowest ((9, not (valid p)) ∷ [])
+refusal p = lowest (refusals p)
 
 -- the answer for every table, every allowance and every list that is lent; where refused, "counts are 0"
 unfoldable pub answerOf : Program → ℕ → List ℕ → SearchAnswer

@@ -3,7 +3,7 @@ use mathlib.Core.Bool.{Bool, cond, _&&_}
 use mathlib.Core.List.{List, [], _∷_}
 use Prim.Native.Nat.{ℕ, _-_}
 use lib.Bits.{bitAnd, bitOr}
-use Rattle.sets.specs.Lists.{some, below}
+use Rattle.sets.specs.Lists.{anyOf, below}
 use Rattle.sets.specs.Words.{inside, apart}
 use Rattle.program.specs.Clauses.{Clause}
 use Rattle.semantics.specs.Interpretations.{reduct, isModel}
@@ -30,5 +30,5 @@ supported P w = supportFrom w P 0
 
 -- some proper subset of I that holds J and nothing outside J and R satisfies the reduct by I
 unfoldable pub smallerBetween : List Clause → ℕ → ℕ → ℕ → Bool
-unfolding some below isModel reduct
-smallerBetween P I J R = some (λ K. inside J K && inside K (bitOr J R) && isModel (reduct P I) K) (below I)
+unfolding anyOf below isModel reduct
+smallerBetween P I J R = anyOf (λ K. inside J K && inside K (bitOr J R) && isModel (reduct P I) K) (below I)

@@ -7,8 +7,8 @@ use lib.Dec.{ltb}
 use Rattle.search.specs.Tree.{Node}
 
 -- what is answered where no node is a hit, and where the allowance ended before one
-abbrev pub none : ℕ
-none = 0xffff_ffff
+abbrev pub noLeaf : ℕ
+noLeaf = 0xffff_ffff
 
 abbrev pub spent : ℕ
 spent = 0xffff_fffe
@@ -20,7 +20,7 @@ fromWord x (y ∷ ys) = let r = fromWord x ys in cond (ltb (y .word) x) r (y ∷
 
 -- ---- the first hit among xs, with v nodes visited before and the allowance A: its word, and the nodes visited up to it
 unfoldable pub sought : (Node → Bool) → ℕ → List Node → ℕ → ℕ
-sought hit A [] v = none
+sought hit A [] v = noLeaf
 sought hit A (x ∷ xs) v = let r = sought hit A xs (v + 1) in cond (ltb v A) (cond (hit x) (x .word) r) spent
 
 unfoldable pub after : (Node → Bool) → ℕ → List Node → ℕ → ℕ

@@ -5,7 +5,7 @@ use mathlib.Core.List.{List, [], _∷_, _++_}
 use Prim.Native.Nat.{ℕ, zero, suc, _+_, _*_, _%_, _^_}
 use lib.Dec.{eqb}
 use lib.ListN.{length}
-use Rattle.sets.specs.Lists.{some}
+use Rattle.sets.specs.Lists.{anyOf}
 use Rattle.sets.specs.Words.{inside, apart}
 use Rattle.program.specs.Clauses.{Clause}
 use Rattle.semantics.specs.Interpretations.{isStable}
@@ -35,8 +35,8 @@ deadBy k w c =
 
 -- "A node is dead when for some clause" that is so.
 unfoldable pub dead : List Clause → Dead
-unfolding some deadBy
-dead P k w = some (deadBy k w) P
+unfolding anyOf deadBy
+dead P k w = anyOf (deadBy k w) P
 
 -- The nodes below (k, w) for a dead test D. "A live node with k > 0 has two children, bit k-1 out first, then in.
 -- Nodes are visited a parent before its children, the first child's whole tree before the second."

@@ -3,7 +3,7 @@ ghost use mathlib.Core.Path.{_≡_};
 ghost use mathlib.Core.Bool.{true, false};
 ghost use Prim.Native.Nat.{_+_, _-_, _*_, _^_, _≤_, _<_};
 ghost use lib.Bits.{bitOr};
-ghost use Rattle.sets.specs.Lists.{some};
+ghost use Rattle.sets.specs.Lists.{anyOf};
 ghost use Rattle.sets.specs.Words.{Inside, Highest};
 ghost use Rattle.program.specs.Clauses.{clauseOf};
 ghost use Rattle.semantics.specs.Interpretations.{isStable};
@@ -56,7 +56,7 @@ fn rules_out(head: u32, body: u32, naf: u32, by: u32, w: u32, reach: u32) -> boo
 // Whether that is so of some clause.
 fn some_rules_out(table: &[u32; 192], count: usize, by: u32, w: u32, reach: u32) -> bool
     requires { ⌜ count ≤ 64 ⌝ }
-    ensures { λ r. ⌜ r ≡ some (rulesOut by w reach) (packedRows (now (table .entry)) count) ⌝ }
+    ensures { λ r. ⌜ r ≡ anyOf (rulesOut by w reach) (packedRows (now (table .entry)) count) ⌝ }
 {
     let mut i: usize = 0;
     while i < count {

@@ -9,7 +9,7 @@ use native.Mathlib.Numerals.{add-one}
 use native.Mathlib.Omega.{arith}
 use lib.Dec.{T}
 use lib.ListN.{length, getD}
-use Rattle.sets.specs.Lists.{_∈_, Each, Some, every, some, sift, upFrom, onward, tabulate, below}
+use Rattle.sets.specs.Lists.{_∈_, Each, Some, every, anyOf, sift, upFrom, onward, tabulate, below}
 use Rattle.sets.proofs.Tests.{clash, both-true, both-false, and-is-true, T?, T-true, true-T}
 
 -- ---- members
@@ -91,43 +91,43 @@ module _ {A : Type 0} (p : A → Bool) where
   each-every [] f = refl
   each-every (y ∷ l) f = and-is-true _ _ (f y (inl refl)) (each-every l (λ x m. f x (inr m)))
 
-  pub some-in : (l : List A) → some p l ≡ true → Some (λ x. p x ≡ true) l
-  unfolding some
+  pub some-in : (l : List A) → anyOf p l ≡ true → Some (λ x. p x ≡ true) l
+  unfolding anyOf
   some-in [] h = clash false h refl
   some-in (y ∷ l) h = go (p y) refl h (some-in l)
     where
-      go : (b : Bool) → p y ≡ b → b || some p l ≡ true → (some p l ≡ true → Some (λ x. p x ≡ true) l) → Some (λ x. p x ≡ true) (y ∷ l)
+      go : (b : Bool) → p y ≡ b → b || anyOf p l ≡ true → (anyOf p l ≡ true → Some (λ x. p x ≡ true) l) → Some (λ x. p x ≡ true) (y ∷ l)
       go true e h r = (y, inl refl, e)
       go false e h r = let s = r h in (s .0, inr (s .1), s .2)
 
-  pub none-each : (l : List A) → some p l ≡ false → Each (λ x. p x ≡ false) l
-  unfolding some
+  pub none-each : (l : List A) → anyOf p l ≡ false → Each (λ x. p x ≡ false) l
+  unfolding anyOf
   none-each [] h x m = absurd m
-  none-each (y ∷ l) h x (inl e) = ap p e ∙ both-false (p y) (some p l) h .0
-  none-each (y ∷ l) h x (inr m) = none-each l (both-false (p y) (some p l) h .1) x m
+  none-each (y ∷ l) h x (inl e) = ap p e ∙ both-false (p y) (anyOf p l) h .0
+  none-each (y ∷ l) h x (inr m) = none-each l (both-false (p y) (anyOf p l) h .1) x m
 
-  pub in-some : (l : List A) (x : A) → x ∈ l → p x ≡ true → some p l ≡ true
-  unfolding some
+  pub in-some : (l : List A) (x : A) → x ∈ l → p x ≡ true → anyOf p l ≡ true
+  unfolding anyOf
   in-some [] x m t = absurd m
   in-some (y ∷ l) x m t = go (p y) refl m (λ k. in-some l x k t)
     where
-      go : (b : Bool) → p y ≡ b → (x ≡ y) ⊎ (x ∈ l) → (x ∈ l → some p l ≡ true) → b || some p l ≡ true
+      go : (b : Bool) → p y ≡ b → (x ≡ y) ⊎ (x ∈ l) → (x ∈ l → anyOf p l ≡ true) → b || anyOf p l ≡ true
       go true e k r = refl
       go false e (inl q) r = clash (p x) t (ap p q ∙ e)
       go false e (inr k) r = r k
 
-  pub some-none : (l : List A) → Each (λ x. p x ≡ false) l → some p l ≡ false
-  unfolding some
+  pub some-none : (l : List A) → Each (λ x. p x ≡ false) l → anyOf p l ≡ false
+  unfolding anyOf
   some-none [] f = refl
   some-none (y ∷ l) f = rw (f y (inl refl)) (some-none l (λ x m. f x (inr m)))
 
   -- every member passes where none fails
-  pub every-some : (l : List A) → every p l ≡ not (some (λ x. not (p x)) l)
-  unfolding every some
+  pub every-some : (l : List A) → every p l ≡ not (anyOf (λ x. not (p x)) l)
+  unfolding every anyOf
   every-some [] = refl
   every-some (y ∷ l) = go (p y) (every-some l)
     where
-      go : (b : Bool) → every p l ≡ not (some (λ x. not (p x)) l) → b && every p l ≡ not (not b || some (λ x. not (p x)) l)
+      go : (b : Bool) → every p l ≡ not (anyOf (λ x. not (p x)) l) → b && every p l ≡ not (not b || anyOf (λ x. not (p x)) l)
       go true e = e
       go false e = refl
 
@@ -235,22 +235,22 @@ module _ {A : Type 0} (f : ℕ → A) (n : ℕ) (p : A → Bool) where
 module _ {A : Type 0} (f : ℕ → A) (n : ℕ) (p : A → Bool) (from : ℕ) where
   -- none between from and i passes
   pub record Lacks (i : ℕ) : Type 0 where
-    pub rest : some p (onward f n i) ≡ some p (onward f n from)
+    pub rest : anyOf p (onward f n i) ≡ anyOf p (onward f n from)
 
   pub lacks-start : Lacks from
   lacks-start = record { rest = refl }
 
-  pub lacks-not : (i : ℕ) → Lacks i → i < n → p (f i) ≡ true → true ≡ some p (onward f n from)
-  unfolding some
-  lacks-not i s h t = rw t at (sym (ap (some p) (onward-step f n i h))) ∙ s .rest
+  pub lacks-not : (i : ℕ) → Lacks i → i < n → p (f i) ≡ true → true ≡ anyOf p (onward f n from)
+  unfolding anyOf
+  lacks-not i s h t = rw t at (sym (ap (anyOf p) (onward-step f n i h))) ∙ s .rest
 
   pub lacks-more : (i : ℕ) → Lacks i → i < n → p (f i) ≡ false → Lacks (i + 1)
-  unfolding some
-  lacks-more i s h t = record { rest = rw t at (sym (ap (some p) (onward-step f n i h))) ∙ s .rest }
+  unfolding anyOf
+  lacks-more i s h t = record { rest = rw t at (sym (ap (anyOf p) (onward-step f n i h))) ∙ s .rest }
 
-  pub lacks-done : (i : ℕ) → Lacks i → n ≤ i → false ≡ some p (onward f n from)
-  unfolding some
-  lacks-done i s h = sym (ap (some p) (onward-done f n i h)) ∙ s .rest
+  pub lacks-done : (i : ℕ) → Lacks i → n ≤ i → false ≡ anyOf p (onward f n from)
+  unfolding anyOf
+  lacks-done i s h = sym (ap (anyOf p) (onward-done f n i h)) ∙ s .rest
 
 -- ---- the numbers below n
 pub below-in : (n x : ℕ) → x < n → x ∈ below n

@@ -46,13 +46,13 @@ odd-go : (P I j : ℕ) → I < P * 2 → j % 2 ≡ I % 2 → min ((P * 2 - I + j
 odd-go P I j l o = omega arith
 
 add-low : (I j m : ℕ) → Inside m I → m ≡ j / 2 * 2 + 1 → j % 2 < I % 2 → Next I j m
-add-low I j m h e o = record { inside = h; above = omega arith; none = λ i a b s. omega arith }
+add-low I j m h e o = record { inside = h; above = omega arith; no-between = λ i a b s. omega arith }
 
 go-high : (I j m q : ℕ) → Inside m I → m ≡ q * 2 + 0 → j % 2 ≡ I % 2 → Next (I / 2) (j / 2) q → Next I j m
 go-high I j m q h e o n = record {
   inside = h;
   above = omega (arith, n .above);
-  none = λ i a b s. let p = inside-odd i I s in n .none (i / 2) (omega arith) (omega arith) (inside-half i I s);
+  no-between = λ i a b s. let p = inside-odd i I s in n .no-between (i / 2) (omega arith) (omega arith) (inside-half i I s);
 }
 
 pub next-is : (k I j : ℕ) → I < 2 ^ k → Inside j I → j < I → Next I j (bitAnd (2 ^ k - I + j) I)

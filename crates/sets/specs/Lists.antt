@@ -25,9 +25,9 @@ module _ {A : Type 0} where
   every p [] = true
   every p (x ∷ l) = let r = every p l in p x && r
 
-  unfoldable pub some : (A → Bool) → List A → Bool
-  some p [] = false
-  some p (x ∷ l) = let r = some p l in p x || r
+  unfoldable pub anyOf : (A → Bool) → List A → Bool
+  anyOf p [] = false
+  anyOf p (x ∷ l) = let r = anyOf p l in p x || r
 
   -- the members that pass the test, in their order
   unfoldable pub sift : (A → Bool) → List A → List A

@@ -53,7 +53,7 @@ meets a b = not (apart a b)
 pub record Next (I j m : ℕ) : Type 0 where
   pub inside : Inside m I
   pub above : j < m
-  pub none : (i : ℕ) → j < i → i < m → Inside i I → ⊥
+  pub no-between : (i : ℕ) → j < i → i < m → Inside i I → ⊥
 
 -- t is the highest bit of x
 pub record Highest (x t : ℕ) : Type 0 where

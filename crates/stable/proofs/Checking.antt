@@ -116,4 +116,4 @@ pub walk-on : (R : List Clause) (I j m : ℕ) → Searched (smaller R I) I j →
 unfolding smaller
 walk-on R I j m s l f x =
     leap (smaller R I) I (j + 1) m (miss (smaller R I) I j s l f) (omega (arith, x .above)) (omega (arith, and-le-r m I, x .inside))
-    (λ k a b. rw (ne-eqb (bitAnd k I) k (λ q. x .none k (omega arith) b q)))
+    (λ k a b. rw (ne-eqb (bitAnd k I) k (λ q. x .no-between k (omega arith) b q)))

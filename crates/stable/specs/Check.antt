@@ -29,8 +29,11 @@ verdict R P I =
     (cond (ltb (leastSmaller P I) I) (Smaller (leastSmaller P I)) Stable)
 
 -- "check and summary [meet] 9 and 10"
+abbrev pub refusals : Program → ℕ → List (ℕ × Bool)
+refusals p w = (9, not (valid p)) ∷ (10, not (isWord (p .«atom_count») w)) ∷ []
+
 unfoldable pub refusal : Program → ℕ → ℕ
-refusal p w = lowest ((9, not (valid p)) ∷ (10, not (isWord (p .«atom_count») w)) ∷ [])
+refusal p w = lowest (refusals p w)
 
 -- the answer for every table and every word
 unfoldable pub answerOf : Program → ℕ → Checked

@@ -16,7 +16,7 @@ use Rattle.lists.specs.Bytes.{same}
 use Rattle.sets.proofs.Lists.{in-sift, out-sift}
 use Rattle.sets.proofs.Tests.{T-and-l, T?, T-and, T-and-r}
 use Rattle.sets.specs.Least.{least}
-use Rattle.sets.specs.Lists.{_∈_, Some, sift, some, Each}
+use Rattle.sets.specs.Lists.{_∈_, Some, sift, anyOf, Each}
 use Rattle.sets.specs.Words.{inside, mask}
 use Rattle.sets.proofs.Least.{least-hit, least-le}
 use Rattle.stages.proofs.Bridge.{Alike, stage-to, stage-of, stage-rests}
@@ -37,12 +37,12 @@ sift-sift p q (x ∷ l) = go (p x) (sift-sift p q l)
     go true ih = ap (λ (k : List ℕ). cond (q x) (x ∷ k) k) ih
     go false ih = ih
 
-pub any-none : (t : ℕ → Bool) → some t [] ≡ false
-unfolding some
+pub any-none : (t : ℕ → Bool) → anyOf t [] ≡ false
+unfolding anyOf
 any-none t = refl
 
-pub any-one : (t : ℕ → Bool) (x : ℕ) (l : List ℕ) → some t (x ∷ l) ≡ (t x || some t l)
-unfolding some
+pub any-one : (t : ℕ → Bool) (x : ℕ) (l : List ℕ) → anyOf t (x ∷ l) ≡ (t x || anyOf t l)
+unfolding anyOf
 any-one t x l = refl
 
 pub sift-one : (t : ℕ → Bool) (x : ℕ) (l : List ℕ) → sift t (x ∷ l) ≡ cond (t x) (x ∷ sift t l) (sift t l)
@@ -64,26 +64,26 @@ sift-short t (x ∷ l) = go (t x) (sift-short t l)
 
 -- ---- members that pass
 
-pub any-in : (t : ℕ → Bool) (x : ℕ) (l : List ℕ) → x ∈ l → T (t x) → T (some t l)
-unfolding some
+pub any-in : (t : ℕ → Bool) (x : ℕ) (l : List ℕ) → x ∈ l → T (t x) → T (anyOf t l)
+unfolding anyOf
 any-in t x [] i h = absurd i
 any-in t x (y ∷ l) (inl e) h = go (t y) (subst (λ z. T (t z)) e h)
   where
-    go : (b : Bool) → T b → T (_||_ b (some t l))
+    go : (b : Bool) → T b → T (_||_ b (anyOf t l))
     go true u = tt
     go false u = absurd u
 any-in t x (y ∷ l) (inr i) h = go (t y) (any-in t x l i h)
   where
-    go : (b : Bool) → T (some t l) → T (_||_ b (some t l))
+    go : (b : Bool) → T (anyOf t l) → T (_||_ b (anyOf t l))
     go true u = tt
     go false u = u
 
-pub in-any : (t : ℕ → Bool) (l : List ℕ) → T (some t l) → Some (λ x. T (t x)) l
-unfolding some
+pub in-any : (t : ℕ → Bool) (l : List ℕ) → T (anyOf t l) → Some (λ x. T (t x)) l
+unfolding anyOf
 in-any t [] h = absurd h
 in-any t (y ∷ l) h = go (t y) refl h (in-any t l)
   where
-    go : (b : Bool) → t y ≡ b → T (_||_ b (some t l)) → (T (some t l) → Some (λ x. T (t x)) l) → Some (λ x. T (t x)) (y ∷ l)
+    go : (b : Bool) → t y ≡ b → T (_||_ b (anyOf t l)) → (T (anyOf t l) → Some (λ x. T (t x)) l) → Some (λ x. T (t x)) (y ∷ l)
     go true e u ih = (y, inl refl, subst T (sym e) tt)
     go false e u ih = let s = ih u in (s .0, inr (s .1), s .2)
 
@@ -109,12 +109,12 @@ alike-words (r ∷ R) f = (
 -- ---- the same models
 
 satisfies-model : (w : ℕ) (R : List (Rule ℕ)) → satisfies (map wordRule R) w ≡ wmodel w R
-unfolding satisfies some violates wmodel wsat
+unfolding satisfies anyOf violates wmodel wsat
 satisfies-model w [] = refl
 satisfies-model w (r ∷ R) = go (inside (mask (r .body)) w) (eqb (bitAnd (mask (r .head)) w) 0) (satisfies-model w R)
   where
-    go : (a b : Bool) → not (some (violates w) (map wordRule R)) ≡ wmodel w R
-        → not ((a && b) || some (violates w) (map wordRule R)) ≡ (cond a (not b) true && wmodel w R)
+    go : (a b : Bool) → not (anyOf (violates w) (map wordRule R)) ≡ wmodel w R
+        → not ((a && b) || anyOf (violates w) (map wordRule R)) ≡ (cond a (not b) true && wmodel w R)
     go true true ih = refl
     go true false ih = ih
     go false b ih = ih
@@ -175,13 +175,13 @@ module _ (R : List (Rule ℕ)) (small : Each (λ (r : Rule ℕ). Each (λ x. x <
       record {
         member = f .0;
         model = f .1;
-        least = λ v k t u. proper-not w v u (λ p. T-not (some (properIn w) (sift (satisfies (map wordRule R)) (finalStage (map wordRule R)))) (s .1) (any-in (properIn w) v (sift (satisfies (map wordRule R)) (finalStage (map wordRule R))) (found-in v k t) p));
+        least = λ v k t u. proper-not w v u (λ p. T-not (anyOf (properIn w) (sift (satisfies (map wordRule R)) (finalStage (map wordRule R)))) (s .1) (any-in (properIn w) v (sift (satisfies (map wordRule R)) (finalStage (map wordRule R))) (found-in v k t) p));
       }
 
   pub minimal-in : (w : ℕ) → WMinimal R (ending (map wordRule R)) w → w ∈ minimals (sift (satisfies (map wordRule R)) (finalStage (map wordRule R)))
   unfolding minimals leastIn
   minimal-in w h = in-sift (leastIn (sift (satisfies (map wordRule R)) (finalStage (map wordRule R)))) (sift (satisfies (map wordRule R)) (finalStage (map wordRule R))) w (found-in w (h .member) (h .model))
-      (not-T (some (properIn w) (sift (satisfies (map wordRule R)) (finalStage (map wordRule R)))) (λ t.
+      (not-T (anyOf (properIn w) (sift (satisfies (map wordRule R)) (finalStage (map wordRule R)))) (λ t.
       let s = in-any (properIn w) (sift (satisfies (map wordRule R)) (finalStage (map wordRule R))) t in
       let f = found-out (s .0) (s .1) in
       not-proper w (s .0) (s .2) (h .least (s .0) (f .0) (f .1) (proper-within w (s .0) (s .2)))))

@@ -8,7 +8,7 @@ use mathlib.Core.List.{List}
 use mathlib.Core.Path.{_≡_, sym, ap, _∙_, subst}
 use native.Mathlib.Decide.{decLe, decLt}
 use native.Mathlib.Omega.{arith}
-use Rattle.sets.specs.Lists.{some, below}
+use Rattle.sets.specs.Lists.{anyOf, below}
 use Rattle.sets.specs.Least.{least}
 use Rattle.sets.proofs.Tests.{T-true}
 use Rattle.sets.proofs.Lists.{below-in, in-below, in-some, some-none}
@@ -22,10 +22,10 @@ use Rattle.stages.specs.Run.{resting, ending, finalStage, crowded, Reach
 pub same-eq : (a b : List ℕ) → T (same a b) → a ≡ b
 same-eq a b t = same-true a b (T-true (same a b) t)
 
-some-hit : (p : ℕ → Bool) (n i : ℕ) → i ≤ n → p i ≡ true → some p (below (suc n)) ≡ true
+some-hit : (p : ℕ → Bool) (n i : ℕ) → i ≤ n → p i ≡ true → anyOf p (below (suc n)) ≡ true
 some-hit p n i h t = in-some p (below (suc n)) i (below-in (suc n) i (omega arith)) t
 
-some-miss : (p : ℕ → Bool) (n : ℕ) → ((i : ℕ) → i ≤ n → p i ≡ false) → some p (below (suc n)) ≡ false
+some-miss : (p : ℕ → Bool) (n : ℕ) → ((i : ℕ) → i ≤ n → p i ≡ false) → anyOf p (below (suc n)) ≡ false
 some-miss p n f = some-none p (below (suc n)) (λ i m. f i (let h = in-below (suc n) i m in omega arith))
 
 -- ---- a run that has come to stage k

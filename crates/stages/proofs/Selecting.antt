@@ -10,7 +10,7 @@ use mathlib.Core.Path.{_≡_, refl, sym, ap, ap₂, _∙_, subst}
 use native.Mathlib.Numerals.{add-one}
 use native.Mathlib.Omega.{arith}
 use borrow.Author.Needs.{needs}
-use Rattle.sets.specs.Lists.{sift, some}
+use Rattle.sets.specs.Lists.{sift, anyOf}
 use Rattle.sets.proofs.Tests.{clash}
 use Rattle.rising.specs.Slices.{Sifted}
 use Rattle.operator.specs.Operator.{WordRule, stage}
@@ -43,25 +43,25 @@ no-more l count p h k = drop-of-length-le (take count l) {i = p} (omega (arith, 
 pub record Looking (t : ℕ → Bool) (l : List ℕ) (count q : ℕ) : Type 0 where
   pub inside : count ≤ length l
   pub within : q ≤ count
-  pub same : some t (drop q (take count l)) ≡ some t (take count l)
+  pub same : anyOf t (drop q (take count l)) ≡ anyOf t (take count l)
 
 module _ (t : ℕ → Bool) (l : List ℕ) (count : ℕ) where
   pub looking-start : count ≤ length l → Looking t l count 0
   looking-start h = record { inside = h; within = omega arith; same = refl }
 
   module _ (q : ℕ) (s : Looking t l count q) where
-    step : q < count → (b : Bool) → t (getD l q 0) ≡ b → _||_ b (some t (drop (q + 1) (take count l))) ≡ some t (take count l)
-    step h b e = ap (λ (x : Bool). _||_ x (some t (drop (q + 1) (take count l)))) (sym e) ∙ sym (any-one t (getD l q 0) (drop (q + 1) (take count l)))
-        ∙ ap (some t) (sym (one-more l count q (s .inside) h)) ∙ s .same
+    step : q < count → (b : Bool) → t (getD l q 0) ≡ b → _||_ b (anyOf t (drop (q + 1) (take count l))) ≡ anyOf t (take count l)
+    step h b e = ap (λ (x : Bool). _||_ x (anyOf t (drop (q + 1) (take count l)))) (sym e) ∙ sym (any-one t (getD l q 0) (drop (q + 1) (take count l)))
+        ∙ ap (anyOf t) (sym (one-more l count q (s .inside) h)) ∙ s .same
 
-    pub looking-hit : (b : Bool) → q < count → b ≡ t (getD l q 0) → b ≡ true → true ≡ some t (take count l)
+    pub looking-hit : (b : Bool) → q < count → b ≡ t (getD l q 0) → b ≡ true → true ≡ anyOf t (take count l)
     looking-hit b h e y = step h true (sym e ∙ y)
 
     pub looking-miss : (b : Bool) → q < count → b ≡ t (getD l q 0) → b ≡ false → Looking t l count (q + 1)
     looking-miss b h e y = record { inside = s .inside; within = omega arith; same = step h false (sym e ∙ y) }
 
-    pub looking-done : count ≤ q → false ≡ some t (take count l)
-    looking-done h = sym (any-none t) ∙ ap (some t) (sym (no-more l count q (s .inside) h)) ∙ s .same
+    pub looking-done : count ≤ q → false ≡ anyOf t (take count l)
+    looking-done h = sym (any-none t) ∙ ap (anyOf t) (sym (no-more l count q (s .inside) h)) ∙ s .same
 
 -- ---- the members that pass a test
 
@@ -104,11 +104,11 @@ module _ (t : ℕ → Bool) (l : List ℕ) (members : ℕ) (xs : List ℕ) where
         sym (ap (λ (k : List ℕ). take n ys ++ k) (ap (sift t) (no-more l members p (s .inside) h) ∙ sift-none t) ∙ append-nil (take n ys)) ∙ s .whole in
         record { count = sym (length-take-le n ys (omega (arith, s .low, s .room, s .within))) ∙ ap length w; words = w; few = omega (arith, s .low, s .within) }
 
-pub satisfies-is : (Q : List WordRule) (w : ℕ) {b : Bool} → b ≡ some (violates w) Q → not b ≡ satisfies Q w
+pub satisfies-is : (Q : List WordRule) (w : ℕ) {b : Bool} → b ≡ anyOf (violates w) Q → not b ≡ satisfies Q w
 unfolding satisfies
 satisfies-is Q w e = ap not e
 
-pub least-in-is : (l : List ℕ) (w : ℕ) {b : Bool} → b ≡ some (properIn w) l → not b ≡ leastIn l w
+pub least-in-is : (l : List ℕ) (w : ℕ) {b : Bool} → b ≡ anyOf (properIn w) l → not b ≡ leastIn l w
 unfolding leastIn
 least-in-is l w e = ap not e
 

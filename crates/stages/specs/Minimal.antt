@@ -6,7 +6,7 @@ use mathlib.Core.Bool.{Bool, false, cond, not, _&&_}
 use mathlib.Core.List.{List}
 use mathlib.Core.Path.{_≡_}
 use lib.ListN.{length, take}
-use Rattle.sets.specs.Lists.{sift, some}
+use Rattle.sets.specs.Lists.{sift, anyOf}
 use Rattle.sets.specs.Words.{inside}
 use Rattle.operator.specs.Operator.{WordRule}
 use Rattle.stages.specs.Run.{finalStage, crowded}
@@ -17,7 +17,7 @@ violates w c = inside (c .body) w && eqb (bitAnd (c .head) w) 0
 
 -- w satisfies every clause
 unfoldable pub satisfies : List WordRule → ℕ → Bool
-satisfies Q w = not (some (violates w) Q)
+satisfies Q w = not (anyOf (violates w) Q)
 
 -- v is a proper subset of w
 unfoldable pub properIn : ℕ → ℕ → Bool
@@ -25,7 +25,7 @@ properIn w v = inside v w && not (eqb v w)
 
 -- no member of the list is a proper subset of w
 unfoldable pub leastIn : List ℕ → ℕ → Bool
-leastIn l w = not (some (properIn w) l)
+leastIn l w = not (anyOf (properIn w) l)
 
 -- the minimal ones of a list
 unfoldable pub minimals : List ℕ → List ℕ

@@ -6,7 +6,7 @@ use mathlib.Core.Bool.{Bool, false, cond}
 use mathlib.Core.List.{List}
 use mathlib.Core.Path.{_≡_}
 use Rattle.lists.specs.Bytes.{same}
-use Rattle.sets.specs.Lists.{some, below}
+use Rattle.sets.specs.Lists.{anyOf, below}
 use Rattle.sets.specs.Least.{least}
 use Rattle.operator.specs.Operator.{WordRule, stage}
 
@@ -24,7 +24,7 @@ finalStage Q = stage Q (ending Q)
 
 -- Refusal 12: "Some stage, up to the one that ends the run, has more members than the working room."
 unfoldable pub crowded : List WordRule → ℕ → Bool
-crowded Q room = some (λ k. ltb room (length (stage Q k))) (below (suc (ending Q)))
+crowded Q room = anyOf (λ k. ltb room (length (stage Q k))) (below (suc (ending Q)))
 
 -- ---- a run that has come to stage k
 

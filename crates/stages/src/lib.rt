@@ -2,7 +2,7 @@
 ghost use mathlib.Core.Path.{_≡_};
 ghost use Prim.Native.Nat.{_+_, _-_, _≤_, _<_};
 ghost use lib.ListN.{length, take};
-ghost use Rattle.sets.specs.Lists.{sift, some};
+ghost use Rattle.sets.specs.Lists.{sift, anyOf};
 ghost use Rattle.lists.specs.Bytes.{same};
 ghost use Rattle.rising.specs.Slices.{Sifted};
 ghost use Rattle.operator.specs.Operator.{rulesFrom};
@@ -61,7 +61,7 @@ fn violates_at(head: u64, body: u64, w: u64) -> bool
 // Whether `w` violates some clause.
 fn violated<'a>(heads: &'a [u64], bodies: &'a [u64], count: usize, w: u64) -> bool
     requires { ⌜ (count ≤ length (now heads)) × (count ≤ length (now bodies)) ⌝ }
-    ensures { λ r. ⌜ r ≡ some (violates w) (rulesFrom (now (heads .entry)) (now (bodies .entry)) 0 count) ⌝ }
+    ensures { λ r. ⌜ r ≡ anyOf (violates w) (rulesFrom (now (heads .entry)) (now (bodies .entry)) 0 count) ⌝ }
 {
     let mut k: usize = 0;
     while k < count {
@@ -117,7 +117,7 @@ fn properly(v: u64, w: u64) -> bool
 // Whether some of the first `count` words is a proper subset of `w`.
 fn smaller(list: &[u64], count: usize, w: u64) -> bool
     requires { ⌜ count ≤ length (now list) ⌝ }
-    ensures { λ r. ⌜ r ≡ some (properIn w) (take count (now (list .entry))) ⌝ }
+    ensures { λ r. ⌜ r ≡ anyOf (properIn w) (take count (now (list .entry))) ⌝ }
 {
     let mut q: usize = 0;
     while q < count {

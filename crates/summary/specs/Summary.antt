@@ -4,7 +4,7 @@ use mathlib.Core.List.{List, [], _∷_}
 use Prim.Native.Nat.{ℕ, _+_, _/_, _%_}
 use lib.Dec.{eqb, leb, ltb}
 use lib.ListN.{getD, replicate}
-use Rattle.sets.specs.Lists.{every, some, tabulate}
+use Rattle.sets.specs.Lists.{every, anyOf, tabulate}
 use Rattle.program.specs.declared.Program.{Program}
 use Rattle.program.specs.Values.{isWord, valueIn}
 use Rattle.program.specs.Refusals.{lowest}
@@ -14,7 +14,7 @@ use Rattle.summary.specs.declared.Summary.{Summary}
 
 -- the value v occurs for the name i in the words
 unfoldable pub occurs : ℕ → ℕ → List ℕ → Bool
-occurs v i words = some (λ w. eqb (valueIn w i) v) words
+occurs v i words = anyOf (λ w. eqb (valueIn w i) v) words
 
 abbrev pub bitIf : Bool → ℕ → ℕ
 bitIf true bit = bit
@@ -36,8 +36,11 @@ unfoldable pub settledAt : ℕ → List ℕ → ℕ → Bool
 settledAt n shown i = cond (ltb i n) (isSettled (getD shown i 0)) false
 
 -- "check and summary 9 and 10"
+abbrev pub refusals : Program → List ℕ → List (ℕ × Bool)
+refusals p words = (9, not (valid p)) ∷ (10, not (every (isWord (p .«atom_count»)) words)) ∷ []
+
 unfoldable pub refusal : Program → List ℕ → ℕ
-refusal p words = lowest ((9, not (valid p)) ∷ (10, not (every (isWord (p .«atom_count»)) words)) ∷ [])
+refusal p words = lowest (refusals p words)
 
 -- "A refused summary shows no value for any name and none settled."
 unfoldable pub refusedSummary : ℕ → Summary

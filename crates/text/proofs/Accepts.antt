@@ -9,7 +9,7 @@ use lib.Dec.{eqb, ltb}
 use lib.ListN.{length, getD, length-append, length-map}
 use lib.Seq.{getD-append-add}
 use borrow.Author.Tests.{eqb-true, eqb-false, eq-eqb, ne-eqb, ltb-true, le-leb, le-ltb, not-true}
-use Rattle.sets.specs.Lists.{every, some}
+use Rattle.sets.specs.Lists.{every, anyOf}
 use Rattle.sets.proofs.Tests.{dec, clash, both-true, both-false}
 use Rattle.sets.proofs.Lists.{every-append, every-mono}
 use Rattle.lists.specs.Bytes.{same, pieces, ended, join, close, led}
@@ -114,8 +114,8 @@ plain-own x h = ap (λ (t : Bool). not (not (t || eqb x 32 || eqb x 10))) h
 digit-own : (d : ℕ) → d < 10 → own (48 + d) ≡ true
 digit-own d h = plain-own (48 + d) (rw (le-leb 48 (48 + d) (omega arith), le-leb (48 + d) 57 (omega arith), or-true))
 
-none-foreign : (xs : List ℕ) → every own xs ≡ true → some isForeign xs ≡ false
-unfolding every some own
+none-foreign : (xs : List ℕ) → every own xs ≡ true → anyOf isForeign xs ≡ false
+unfolding every anyOf own
 none-foreign [] h = refl
 none-foreign (x ∷ xs) h = let a = both-true (not (isForeign x)) (every own xs) h in rw (not-true (isForeign x) (a .0), none-foreign xs (a .1))
 
@@ -142,7 +142,7 @@ close-own (r ∷ vss) =
 
 test3 : (ns vss : List (List ℕ)) → every isName ns ≡ true → hasForeign (bookText ns vss) ≡ false
 unfolding hasForeign close every
-test3 ns vss h = ap (some isForeign) (text-of ns vss) ∙ none-foreign _ (every-append own (join 32 ns) (10 ∷ close 10 (map plainLine vss))
+test3 ns vss h = ap (anyOf isForeign) (text-of ns vss) ∙ none-foreign _ (every-append own (join 32 ns) (10 ∷ close 10 (map plainLine vss))
     (every-join own 32 own-space ns (every-mono isName (every own) (λ x k. every-mono isPlain own plain-own x (name-parts x k .plain)) ns h))
     (rw (own-end, close-own vss)))
 
@@ -176,8 +176,8 @@ unfolding every
 zeros-are [] = refl
 zeros-are (v ∷ vs) = rw (zero-is v, zeros-are vs)
 
-none-zeros : (n : ℕ) (vss : List (List ℕ)) → 1 ≤ n → every (isRow n) vss ≡ true → some (λ l. every isZero (pieces 32 l)) (map plainLine vss) ≡ some (every (eqb 0)) vss
-unfolding every some
+none-zeros : (n : ℕ) (vss : List (List ℕ)) → 1 ≤ n → every (isRow n) vss ≡ true → anyOf (λ l. every isZero (pieces 32 l)) (map plainLine vss) ≡ anyOf (every (eqb 0)) vss
+unfolding every anyOf
 none-zeros n [] l h = refl
 none-zeros n (r ∷ vss) l h =
     let a = both-true (isRow n r) (every (isRow n) vss) h in
@@ -215,11 +215,11 @@ zeros-values (l ∷ ls) h =
     let e : 48 ∷ [] ≡ l = sym zero-text ∙ ap decimal (sym z) ∙ value-back l (omega arith) in
     rw (ap (same (48 ∷ [])) (sym e) ∙ same-self (48 ∷ []), zeros-values ls (a .1))
 
-told-lines : (ls : List (List ℕ)) → some (λ l. every isZero (pieces 32 l)) ls ≡ false → some (every (eqb 0)) (map row ls) ≡ false
-unfolding some row
+told-lines : (ls : List (List ℕ)) → anyOf (λ l. every isZero (pieces 32 l)) ls ≡ false → anyOf (every (eqb 0)) (map row ls) ≡ false
+unfolding anyOf row
 told-lines [] h = refl
 told-lines (l ∷ ls) h =
-    let a = both-false (every isZero (pieces 32 l)) (some (λ x. every isZero (pieces 32 x)) ls) h in
+    let a = both-false (every isZero (pieces 32 l)) (anyOf (λ x. every isZero (pieces 32 x)) ls) h in
     let z : every (eqb 0) (map valueOf (pieces 32 l)) ≡ false = ⊎-elim
     (λ t. clash (every isZero (pieces 32 l)) (zeros-values (pieces 32 l) t) (a .0)) (λ f. f) (dec (every (eqb 0) (map valueOf (pieces 32 l)))) in
     rw (z, told-lines ls (a .1))

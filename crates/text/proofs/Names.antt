@@ -19,7 +19,7 @@ use Rattle.text.specs.Tables.{placed}
 
 -- what a name is, by parts
 pub record NameParts (s : List ℕ) : Type 0 where
-  pub some : 1 ≤ length s
+  pub one-up : 1 ≤ length s
   pub short : length s ≤ 8
   pub plain : every isPlain s ≡ true
 
@@ -29,7 +29,7 @@ name-parts s h =
     let a = both-true (leb 1 (length s) && leb (length s) 8 && every isPlain s) (every isLetter (take 1 s)) h in
     let b = both-true (leb 1 (length s) && leb (length s) 8) (every isPlain s) (a .0) in
     let c = both-true (leb 1 (length s)) (leb (length s) 8) (b .0) in
-    record { some = leb-true 1 (length s) (c .0); short = leb-true (length s) 8 (c .1); plain = b .1 }
+    record { one-up = leb-true 1 (length s) (c .0); short = leb-true (length s) 8 (c .1); plain = b .1 }
 
 pub name-short : (s : List ℕ) → isName s ≡ true → length s ≤ 8
 name-short s h = name-parts s h .short

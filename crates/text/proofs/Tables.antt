@@ -11,7 +11,7 @@ use lib.Dec.{eqb, ltb}
 use lib.ListN.{length, getD, take, drop, replicate, length-map, List·getD-map}
 use lib.Seq.{take-at, drop-at, take-add, drop-drop, drop-cons, getD-drop}
 use borrow.Author.Tests.{eqb-true, eq-eqb, ltb-true, lt-ltb, le-leb}
-use Rattle.sets.specs.Lists.{every, some, upFrom, tabulate}
+use Rattle.sets.specs.Lists.{every, anyOf, upFrom, tabulate}
 use Rattle.sets.proofs.Tests.{dec, clash, both-true, both-false}
 use Rattle.sets.proofs.Lists.{length-upFrom, map-upFrom}
 use Rattle.lists.specs.Bytes.{index, same, distinct, padded}
@@ -39,7 +39,7 @@ pub record Good (ns vss : List (List ℕ)) : Type 0 where
   pub apart : distinct ns ≡ true
   pub short : length vss ≤ 64
   pub ruled : every (isRow (length ns)) vss ≡ true
-  pub told : some (every (eqb 0)) vss ≡ false
+  pub told : anyOf (every (eqb 0)) vss ≡ false
 
 cond-true : (a b : Bool) → cond a false b ≡ true → (a ≡ false) × (b ≡ true)
 cond-true true b h = clash false h refl
@@ -299,12 +299,12 @@ differ P Q l m a b h = ⊎-elim
     (λ t. t) (dec (same (named P) (named Q)))
 
 none-same : (Y P : List ℕ) (k j : ℕ) → length P ≡ 8 → isPlace P ≡ true → 8 * (j + k) ≤ length Y → every isPlace (upFrom (place Y) k j) ≡ true
-    → some (same P) (upFrom (place Y) k j) ≡ false → some (same (named P)) (map named (upFrom (place Y) k j)) ≡ false
-unfolding upFrom every some
+    → anyOf (same P) (upFrom (place Y) k j) ≡ false → anyOf (same (named P)) (map named (upFrom (place Y) k j)) ≡ false
+unfolding upFrom every anyOf
 none-same Y P zero j l a b v h = refl
 none-same Y P (suc k) j l a b v h =
     let w = both-true (isPlace (place Y j)) (every isPlace (upFrom (place Y) k (suc j))) v in
-    let s = both-false (same P (place Y j)) (some (same P) (upFrom (place Y) k (suc j))) h in
+    let s = both-false (same P (place Y j)) (anyOf (same P) (upFrom (place Y) k (suc j))) h in
     rw (differ P (place Y j) l (place-long Y j (omega arith)) a (w .0) (s .0), none-same Y P k (suc j) l a (omega arith) (w .1) (s .1))
 
 names-apart : (Y : List ℕ) (k i : ℕ) → 8 * (i + k) ≤ length Y → every isPlace (upFrom (place Y) k i) ≡ true → distinct (upFrom (place Y) k i) ≡ true
@@ -313,7 +313,7 @@ unfolding upFrom every distinct
 names-apart Y zero i b v h = refl
 names-apart Y (suc k) i b v h =
     let w = both-true (isPlace (place Y i)) (every isPlace (upFrom (place Y) k (suc i))) v in
-    let s = cond-true (some (same (place Y i)) (upFrom (place Y) k (suc i))) (distinct (upFrom (place Y) k (suc i))) h in
+    let s = cond-true (anyOf (same (place Y i)) (upFrom (place Y) k (suc i))) (distinct (upFrom (place Y) k (suc i))) h in
     rw (none-same Y (place Y i) k (suc i) (place-long Y i (omega arith)) (w .0) (omega arith) (w .1) (s .0), names-apart Y k (suc i) (omega arith) (w .1) (s .1))
 
 values-small : (c : Clause) (k i : ℕ) → every isSmall (upFrom (clauseValue c) k i) ≡ true
@@ -349,8 +349,8 @@ told-here n c h = ⊎-elim
     clash (not (eqb (c .head) 0 && eqb (c .body) 0 && eqb (c .naf) 0)) z (rw (eq-eqb (c .head) 0 a, eq-eqb (c .body) 0 b, eq-eqb (c .naf) 0 d)))
     (λ t. t) (dec (every (eqb 0) (clauseValues n c)))
 
-rows-told : (n : ℕ) (cs : List Clause) → every (isClause n) cs ≡ true → some (every (eqb 0)) (map (clauseValues n) cs) ≡ false
-unfolding every some
+rows-told : (n : ℕ) (cs : List Clause) → every (isClause n) cs ≡ true → anyOf (every (eqb 0)) (map (clauseValues n) cs) ≡ false
+unfolding every anyOf
 rows-told n [] h = refl
 rows-told n (c ∷ cs) h =
     let a = both-true (isClause n c) (every (isClause n) cs) h in
@@ -366,7 +366,7 @@ good-table p s v =
     let cs = upFrom (clauseAt (p .heads) (p .bodies) (p .nafs)) (p .«clause_count») 0 in
     let l : length (upFrom (nameAt Y) n 0) ≡ n = length-upFrom (nameAt Y) n 0 in
     let e = names-are-named Y n 0 in
-    let a = t .some in
+    let a = t .one-up in
     let f = t .few in
     record {
       any = omega arith;
@@ -395,12 +395,12 @@ pads-differ x y a b h = ⊎-elim
     clash (same x y) (ap (same x) (sym e) ∙ same-self x) h)
     (λ t. t) (dec (same (padded 8 x) (padded 8 y)))
 
-none-again : (x : List ℕ) (ns : List (List ℕ)) → isName x ≡ true → every isName ns ≡ true → some (same x) ns ≡ false → some (same (padded 8 x)) (map (padded 8) ns) ≡ false
-unfolding every some
+none-again : (x : List ℕ) (ns : List (List ℕ)) → isName x ≡ true → every isName ns ≡ true → anyOf (same x) ns ≡ false → anyOf (same (padded 8 x)) (map (padded 8) ns) ≡ false
+unfolding every anyOf
 none-again x [] a h s = refl
 none-again x (y ∷ ns) a h s =
     let w = both-true (isName y) (every isName ns) h in
-    let t = both-false (same x y) (some (same x) ns) s in
+    let t = both-false (same x y) (anyOf (same x) ns) s in
     rw (pads-differ x y a (w .0) (t .0), none-again x ns a (w .1) (t .1))
 
 pads-apart : (ns : List (List ℕ)) → every isName ns ≡ true → distinct ns ≡ true → distinct (map (padded 8) ns) ≡ true
@@ -408,7 +408,7 @@ unfolding every distinct
 pads-apart [] h d = refl
 pads-apart (x ∷ ns) h d =
     let w = both-true (isName x) (every isName ns) h in
-    let t = cond-true (some (same x) ns) (distinct ns) d in
+    let t = cond-true (anyOf (same x) ns) (distinct ns) d in
     rw (none-again x ns (w .0) (w .1) (t .0), pads-apart ns (w .1) (t .1))
 
 word-lt : (k : ℕ) (vs : List ℕ) → wordBy k vs < 2 ^ (2 * length vs)
@@ -452,12 +452,12 @@ row-clause n vs h t =
       z,
     )
 
-rows-clauses : (n : ℕ) (vss : List (List ℕ)) → every (isRow n) vss ≡ true → some (every (eqb 0)) vss ≡ false → every (isClause n) (map clauseFrom vss) ≡ true
-unfolding every some
+rows-clauses : (n : ℕ) (vss : List (List ℕ)) → every (isRow n) vss ≡ true → anyOf (every (eqb 0)) vss ≡ false → every (isClause n) (map clauseFrom vss) ≡ true
+unfolding every anyOf
 rows-clauses n [] h t = refl
 rows-clauses n (r ∷ vss) h t =
     let p = both-true (isRow n r) (every (isRow n) vss) h in
-    let s = both-false (every (eqb 0) r) (some (every (eqb 0)) vss) t in
+    let s = both-false (every (eqb 0) r) (anyOf (every (eqb 0)) vss) t in
     rw (row-clause n r (p .0) (s .0), rows-clauses n vss (p .1) (s .1))
 
 module _ (ns vss : List (List ℕ)) (g : Good ns vss) where

@@ -8,7 +8,7 @@ use native.Mathlib.Omega.{arith}
 use lib.Dec.{eqb, leb, ltb}
 use lib.ListN.{length, getD, take, drop}
 use borrow.Author.Tests.{eq-eqb, eqb-true, eqb-false, le-leb, not-false}
-use Rattle.sets.specs.Lists.{every, some}
+use Rattle.sets.specs.Lists.{every, anyOf}
 use Rattle.sets.proofs.Tests.{dec, clash}
 use Rattle.lists.specs.Bytes.{distinct, pieces, ended, index, endOf, EndsAt, Counts}
 use Rattle.lists.proofs.Pieces.{line-step, length-ended, length-pieces}
@@ -83,9 +83,9 @@ unfolding clauseBroken
 clause-broken-is b e n r h q c s =
     ap not (s ∙ ap₂ (λ (m : ℕ) (l : List (List ℕ)). every (lineHolds m) l) (names-count b e h q n c) (sym (clause-lines-are b e h q)))
 
-pub only-zeros-is : (b : List ℕ) (e : ℕ) (r : Bool) → HasLine b → EndsAt b 10 0 e → r ≡ some (λ l. every isZero (pieces 32 l)) (ended 10 (drop (e + 1) b)) → r ≡ onlyZeros b
+pub only-zeros-is : (b : List ℕ) (e : ℕ) (r : Bool) → HasLine b → EndsAt b 10 0 e → r ≡ anyOf (λ l. every isZero (pieces 32 l)) (ended 10 (drop (e + 1) b)) → r ≡ onlyZeros b
 unfolding onlyZeros
-only-zeros-is b e r h q s = s ∙ ap (some (λ l. every isZero (pieces 32 l))) (sym (clause-lines-are b e h q))
+only-zeros-is b e r h q s = s ∙ ap (anyOf (λ l. every isZero (pieces 32 l))) (sym (clause-lines-are b e h q))
 
 pub many-lines-is : (b : List ℕ) (n : ℕ) → Counts 10 b n → ltb 65 n ≡ tooManyLines b
 unfolding tooManyLines

@@ -4,7 +4,7 @@ use mathlib.Core.List.{List, [], _∷_}
 use Prim.Native.Nat.{ℕ, _-_}
 use lib.Dec.{eqb, leb, ltb}
 use lib.ListN.{length, getD}
-use Rattle.sets.specs.Lists.{every, some}
+use Rattle.sets.specs.Lists.{every, anyOf}
 use Rattle.lists.specs.Bytes.{same, distinct}
 use Rattle.program.specs.Names.{isPlain, isName}
 use Rattle.program.specs.Refusals.{lowest}
@@ -23,7 +23,7 @@ unfoldable pub isForeign : ℕ → Bool
 isForeign x = not (isPlain x || eqb x 32 || eqb x 10)
 
 unfoldable pub hasForeign : List ℕ → Bool
-hasForeign b = some isForeign b
+hasForeign b = anyOf isForeign b
 
 -- 4. "It has more than 65 lines."
 unfoldable pub tooManyLines : List ℕ → Bool
@@ -52,10 +52,14 @@ unfoldable pub isZero : List ℕ → Bool
 isZero i = same (48 ∷ []) i
 
 unfoldable pub onlyZeros : List ℕ → Bool
-onlyZeros b = some (λ l. every isZero (items l)) (clauseLines b)
+onlyZeros b = anyOf (λ l. every isZero (items l)) (clauseLines b)
+
+-- "The reader meets 1 to 8"
+abbrev pub refusals : List ℕ → List (ℕ × Bool)
+refusals b =
+    (1, wrongSize b) ∷ (2, unended b) ∷ (3, hasForeign b) ∷ (4, tooManyLines b)
+    ∷ (5, namesBroken b) ∷ (6, namesEqual b) ∷ (7, clauseBroken b) ∷ (8, onlyZeros b) ∷ []
 
 -- "Of several that apply, the lowest is given, wherever in the book each arises": 0 for none
 unfoldable pub refusal : List ℕ → ℕ
-refusal b = lowest (
-    (1, wrongSize b) ∷ (2, unended b) ∷ (3, hasForeign b) ∷ (4, tooManyLines b)
-    ∷ (5, namesBroken b) ∷ (6, namesEqual b) ∷ (7, clauseBroken b) ∷ (8, onlyZeros b) ∷ [])
+refusal b = lowest (refusals b)

@@ -1,6 +1,6 @@
 -- What the writer answers, and what its slice holds then. Assumes nothing.
 use mathlib.Core.Path.{_≡_}
-use mathlib.Core.Bool.{not, cond}
+use mathlib.Core.Bool.{Bool, not, cond}
 use mathlib.Core.List.{List, [], _∷_}
 use Prim.Native.Nat.{ℕ}
 use lib.Dec.{eqb, ltb}
@@ -23,8 +23,11 @@ writtenLength (Refused r) = 0
 writtenLength (Length n) = n
 
 -- 13. "The writer's slice is shorter than the text."; the writer meets "9 and 13"
+abbrev pub writeRefusals : Program → List ℕ → List (ℕ × Bool)
+writeRefusals p out = (9, not (valid p)) ∷ (13, ltb (length out) (length (render p))) ∷ []
+
 unfoldable pub writeRefusal : Program → List ℕ → ℕ
-writeRefusal p out = lowest ((9, not (valid p)) ∷ (13, ltb (length out) (length (render p))) ∷ [])
+writeRefusal p out = lowest (writeRefusals p out)
 
 -- "Its answer is the text's length in bytes."
 unfoldable pub answerOf : Program → List ℕ → Written

@@ -2,7 +2,7 @@
 use mathlib.Core.Path.{_≡_, refl}
 use mathlib.Core.List.{List, [], _∷_, map, flatMap}
 use Prim.Native.Nat.{ℕ, _+_, _*_}
-use Rattle.sets.specs.Lists.{some, sift, upFrom, tabulate}
+use Rattle.sets.specs.Lists.{anyOf, sift, upFrom, tabulate}
 use Rattle.sets.specs.Words.{mask}
 use Rattle.sets.specs.Least.{least}
 use Rattle.lists.specs.Bytes.{same}
@@ -23,7 +23,7 @@ fixpointOf b = listing (2 * b .names) (epistemic (2 * b .names) (2 * b .names + 
 
 -- all eleven at once, by computation
 pub fixpoint-books-hold : map fixpointOf books ≡ map modelsOf books
-unfolding books wordOf clauseOfValues wordBy bitsOf some sift mask least same insertInto addAll bitsFrom choices next stage resting ending finalStage violates satisfies properIn leastIn minimals minimalModels numbered rewritten becomes standIns epistemic canonical listing flatMap
+unfolding books wordOf clauseOfValues wordBy bitsOf anyOf sift mask least same insertInto addAll bitsFrom choices next stage resting ending finalStage violates satisfies properIn leastIn minimals minimalModels numbered rewritten becomes standIns epistemic canonical listing flatMap
 fixpoint-books-hold = refl
 
 -- the stages of the source's Example 2.11: a ∨ b ← c, ¬d ← c, c ←, ← a, b, over a, b, c, d

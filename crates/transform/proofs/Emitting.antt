@@ -58,15 +58,15 @@ module _ (t p u q : ℕ) (hs bs : List ℕ) (at : ℕ) where
   d-none e = emits-as [] (clauseD (record { literal = t; at = p }) (record { literal = u; at = q })) hs bs at hs bs at (sym (rw (eq-eqb t u e)))
       (record { count = sym (add-zero at); rules = sym (mathlib.Core.List.append-nil (rulesFrom hs bs 0 at)); heads = refl; bodies = refl })
 
-  some : (t ≡ u → ⊥) → clauseD (record { literal = t; at = p }) (record { literal = u; at = q }) ≡ record { head = mask (p ∷ []); body = mask (t ∷ q ∷ []) } ∷ []
-  some n = rw (ne-eqb t u n)
+  two-apart : (t ≡ u → ⊥) → clauseD (record { literal = t; at = p }) (record { literal = u; at = q }) ≡ record { head = mask (p ∷ []); body = mask (t ∷ q ∷ []) } ∷ []
+  two-apart n = rw (ne-eqb t u n)
 
   pub d-there : (t ≡ u → ⊥) → Room (clauseD (record { literal = t; at = p }) (record { literal = u; at = q })) hs bs at → (at < length hs) × (at < length bs)
-  d-there n r = room-there (record { head = mask (p ∷ []); body = mask (t ∷ q ∷ []) }) hs bs at (subst (λ (X : List WordRule). Room X hs bs at) (some n) r)
+  d-there n r = room-there (record { head = mask (p ∷ []); body = mask (t ∷ q ∷ []) }) hs bs at (subst (λ (X : List WordRule). Room X hs bs at) (two-apart n) r)
 
   pub d-is : (h b : ℕ) (hs′ bs′ : List ℕ) (r : ℕ) → (t ≡ u → ⊥) → h ≡ mask (p ∷ []) → b ≡ mask (t ∷ q ∷ []) → Emits (record { head = h; body = b } ∷ []) hs bs at hs′ bs′ r
       → Emits (clauseD (record { literal = t; at = p }) (record { literal = u; at = q })) hs bs at hs′ bs′ r
-  d-is h b hs′ bs′ r n e f g = emits-as _ _ hs bs at hs′ bs′ r (ap₂ (λ (x y : ℕ). record { head = x; body = y } ∷ []) e f ∙ sym (some n)) g
+  d-is h b hs′ bs′ r n e f g = emits-as _ _ hs bs at hs′ bs′ r (ap₂ (λ (x y : ℕ). record { head = x; body = y } ∷ []) e f ∙ sym (two-apart n)) g
 
 -- ---- a walk whose clauses do not mind the numbering
 

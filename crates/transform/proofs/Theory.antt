@@ -54,11 +54,11 @@ noNaf-zero m w h = go (unmask m w) refl
   where
     go : (l : List ℕ) → unmask m w ≡ l → noNaf l ≡ eqb w 0
     go [] e = let z : w ≡ 0 = sym (mask-unmask m w h) ∙ ap mask e in subst (λ v. true ≡ eqb v 0) (sym z) refl
-    go (x ∷ l) e = some (T? (eqb w 0))
+    go (x ∷ l) e = holds (T? (eqb w 0))
       where
-        some : T (eqb w 0) ⊎ (T (eqb w 0) → ⊥) → false ≡ eqb w 0
-        some (inl t) = absurd (subst T (bit-zero x) (subst (λ v. T (bit v x)) (eqb→eq w 0 t) (unmask-out m w x (subst (λ (k : List ℕ). x ∈ k) (sym e) (inl refl)) .1)))
-        some (inr f) = sym (false-is (eqb w 0) f)
+        holds : T (eqb w 0) ⊎ (T (eqb w 0) → ⊥) → false ≡ eqb w 0
+        holds (inl t) = absurd (subst T (bit-zero x) (subst (λ v. T (bit v x)) (eqb→eq w 0 t) (unmask-out m w x (subst (λ (k : List ℕ). x ∈ k) (sym e) (inl refl)) .1)))
+        holds (inr f) = sym (false-is (eqb w 0) f)
           where
             false-is : (b : Bool) → (T b → ⊥) → b ≡ false
             false-is true g = absurd (g tt)

@@ -17,7 +17,7 @@ put-listed-requires : tie.Need-put-listed-requires
 put-listed-requires c κs = let s = c .before .before .before .before .before .before .before .before .before .before .before .before .before .before .before .before .before .before .before .before in
     let p = s .args .p in
     let q = c .before .before .before .before .before .before .before .before .before .before .before .before .fixpoint in
-    (valid-names p (s .pre .0) .some, valid-names p (s .pre .0) .few, fixed-here p _ _ _ (q .result) _ _ _ (q .ensures), fixed-room p _ _ _ (q .result) _ _ _ (q .ensures) (s .pre .0) (s .pre .1) (s .args .out .now) (s .pre .2))
+    (valid-names p (s .pre .0) .one-up, valid-names p (s .pre .0) .few, fixed-here p _ _ _ (q .result) _ _ _ (q .ensures), fixed-room p _ _ _ (q .result) _ _ _ (q .ensures) (s .pre .0) (s .pre .1) (s .args .out .now) (s .pre .2))
 
 returns-2 : tie.Need-returns-2
 returns-2 c = let q = c .before .before .before .before .before .before .before .before .before .before .before .before .before .before .before .fixpoint in fixed-wrote (c .before .before .before .before .before .before .before .before .before .before .before .before .before .before .before .before .before .before .before .before .before .before .before .args .p) _ _ _ (q .result) _ _ _ (q .ensures) _ (c .before .before .before .before .before .before .before .before .refused-by .ensures) _ _ _ (c .before .before .before .before .before .before .before .if1 .left) (c .before .before .put-listed .ensures)

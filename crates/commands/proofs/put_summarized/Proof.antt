@@ -11,7 +11,7 @@ use Rattle.commands.proofs.put_summarized.Tie as tie
 put-lines-requires : tie.Need-put-lines-requires
 put-lines-requires c κs = let s = c .before .before .before .before .before .before .before .before .before .before .before .before in
     let few = valid-names (s .args .p) (s .pre .0) .few in
-    (valid-names (s .args .p) (s .pre .0) .some, few, lines-room _ _ _ _ (s .args .out .now) few (s .pre .1))
+    (valid-names (s .args .p) (s .pre .0) .one-up, few, lines-room _ _ _ _ (s .args .out .now) few (s .pre .1))
 
 returns : tie.Need-returns
 returns c = let q = c .before .before .before .before .before .before .before .before .before .before .before .before .summarize in lines-wrote (c .before .before .before .before .before .before .before .before .before .before .before .before .before .before .before .args .p) _ (q .result) (q .ensures) _ _ _ (c .before .before .before .before .before .before .before .enum-told .given .1) (c .before .before .put-lines .ensures)

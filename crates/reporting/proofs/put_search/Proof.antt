@@ -10,7 +10,7 @@ put-answer-requires : tie.Need-put-answer-requires
 put-answer-requires c κs = let s = c .before .before .before .before .before .before .before .before .before .before in
     let p = s .args .p in
     let q = c .before .before .before .before .before .before .search in
-    (valid-names p (s .pre .0) .some, valid-names p (s .pre .0) .few, listed-here p (s .pre .0) _ _ (q .result) _ (q .ensures), found-room p (s .pre .0) _ _ (q .result) _ (q .ensures) (s .pre .1) (omega arith) (s .args .out .now) (s .pre .2))
+    (valid-names p (s .pre .0) .one-up, valid-names p (s .pre .0) .few, listed-here p (s .pre .0) _ _ (q .result) _ (q .ensures), found-room p (s .pre .0) _ _ (q .result) _ (q .ensures) (s .pre .1) (omega arith) (s .args .out .now) (s .pre .2))
 
 returns : tie.Need-returns
 returns c = let s = c .before .before .before .before .before .before .before .before .before .before .before .before .before in

@@ -5,7 +5,7 @@ use mathlib.Core.List.{map}
 use Prim.Native.Nat.{_+_}
 use native.Mathlib.Omega.{arith}
 use lib.ListN.{length}
-use Rattle.sets.specs.Lists.{some, tabulate}
+use Rattle.sets.specs.Lists.{anyOf, tabulate}
 use Rattle.program.specs.Clauses.{rowsOf}
 use Rattle.program.specs.Names.{nameAt}
 use Rattle.program.specs.Values.{clauseValues}
@@ -27,10 +27,10 @@ returns : tie.Need-returns
 returns c = writes9 _ _ (search rules)
 
 names-length-requires : tie.Need-names-length-requires
-names-length-requires c κs = let s = valid-names _ (taken (c .before .before .before .before .before)) in (s .some, s .few)
+names-length-requires c κs = let s = valid-names _ (taken (c .before .before .before .before .before)) in (s .one-up, s .few)
 
 clauses-length-requires : tie.Need-clauses-length-requires
-clauses-length-requires c κs = let t = taken (c .before .before .before .before .before .before .before .before .before) in let s = valid-names _ t in (s .some, s .few, valid-clauses _ t .short)
+clauses-length-requires c κs = let t = taken (c .before .before .before .before .before .before .before .before .before) in let s = valid-names _ t in (s .one-up, s .few, valid-clauses _ t .short)
 
 add-size : tie.Need-add-size
 add-size c = omega (arith, c .before .before .before .before .names-length .ensures .small, c .clauses-length .ensures .small)
@@ -41,7 +41,7 @@ returns-2 c = writes13 _ _ _ (taken (c .before .before .before .before .before .
 put-text-requires : tie.Need-put-text-requires
 put-text-requires c κs =
     let t = taken (c .before .before .before .before .before .before .before .before .before .before .before .before .before .before .before .before) in let s = valid-names _ t in
-    (s .some, s .few, omega (arith, valid-clauses _ t .short), omega (arith, c .before .before .before .before .before .if2 .left, sized (c .before .before .before .before .before .before), ap length (text-is (c .before .before .before .before .before .before .before .before .before .before .before .before .before .before .before .before .before .before .before .args .p))))
+    (s .one-up, s .few, omega (arith, valid-clauses _ t .short), omega (arith, c .before .before .before .before .before .if2 .left, sized (c .before .before .before .before .before .before), ap length (text-is (c .before .before .before .before .before .before .before .before .before .before .before .before .before .before .before .before .before .before .before .args .p))))
 
 returns-3 : tie.Need-returns-3
 returns-3 c = writes _ _ _ _ _ (taken (c .before .before .before .before .before .before .before .before .before .before .before .before .before .before .before .before .before .before .before)) (sized (c .before .before .before .before .before .before .before .before .before)) (c .before .before .before .before .before .before .before .before .if2 .left) (rw (text-is (c .before .before .before .before .before .before .before .before .before .before .before .before .before .before .before .before .before .before .before .before .before .before .args .p)) at (c .before .before .put-text .ensures))
