@@ -52,7 +52,7 @@ node-count D n = let e : 2 * n + 1 ≡ suc (2 * n) = omega arith in rw e (omega 
 -- ---- a run over nodes
 module _ (hit : Node → Bool) (xs : List Node) (A : ℕ) where
   -- the number of words written is the answer's
-  written-is : (L : ℕ) → runAnswer hit xs A L .written ≡ length (listing hit xs A L)
+  pub written-is : (L : ℕ) → runAnswer hit xs A L .written ≡ length (listing hit xs A L)
   unfolding runAnswer listing overfull
   written-is L = go (ltb L (length (hits hit (take A xs)))) refl (ltb A (length xs))
     where
@@ -72,7 +72,7 @@ module _ (hit : Node → Bool) (xs : List Node) (A : ℕ) where
       begins-take L (hits hit (take A xs)) (hits hit xs)
       (rw (take-append-drop A xs) at (rw (← hits-append hit (take A xs) (drop A xs)) at (begins-append (hits hit (take A xs)) (hits hit (drop A xs)))))
 
-  fits : (L : ℕ) → length (listing hit xs A L) ≤ L
+  pub fits : (L : ℕ) → length (listing hit xs A L) ≤ L
   unfolding listing
   fits L = omega (arith, length-take L (hits hit (take A xs)))
 
@@ -115,7 +115,7 @@ module _ (hit : Node → Bool) (xs : List Node) (A : ℕ) where
   complete-all L h r = rw (take-all A xs h) (take-all L (hits hit xs) r)
 
 -- ---- the search of a table
-leaves-of : (p : Program) → hits (leafOf p) (nodesOf p) ≡ models (p .«atom_count») (clauses p)
+pub leaves-of : (p : Program) → hits (leafOf p) (nodesOf p) ≡ models (p .«atom_count») (clauses p)
 leaves-of p = leaves-are-models (dead (clauses p)) (p .«atom_count») (clauses p) (dead-harmless (clauses p))
 
 module _ (p : Program) (A : ℕ) (l : List ℕ) where
@@ -142,13 +142,13 @@ module _ (p : Program) (A : ℕ) (l : List ℕ) where
       go true false false = refl
       go false b c = refl
 
-  listed-is : valid p ≡ true → listed p A l ≡ listing (leafOf p) (nodesOf p) A (length l)
+  pub listed-is : valid p ≡ true → listed p A l ≡ listing (leafOf p) (nodesOf p) A (length l)
   unfolding listed
   listed-is v =
       let a = accepted v in
       rw (a .0, a .1, written-is (leafOf p) (nodesOf p) A (length l)) (exit-first (leafOf p) (nodesOf p) A l)
 
-  listed-none : valid p ≡ false → listed p A l ≡ []
+  pub listed-none : valid p ≡ false → listed p A l ≡ []
   unfolding listed
   listed-none v = rw (refused v .0)
 

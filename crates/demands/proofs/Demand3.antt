@@ -1,0 +1,133 @@
+-- Demand 3 of any two runs over one table. Assumes nothing.
+use mathlib.Core.Path.{_≡_, refl, sym, ap, _∙_, subst}
+use mathlib.Core.Bool.{true, false}
+use mathlib.Core.Logic.{_⊎_, ⊎-elim}
+use mathlib.Core.List.{List, []}
+use Prim.Native.Nat.{ℕ, min}
+use native.Mathlib.Omega.{arith}
+use native.Mathlib.Nat.{le-refl}
+use lib.ListN.{length, take}
+use lib.Seq.{take-all}
+use Rattle.sets.specs.Lists.{Rising, Begins}
+use Rattle.sets.proofs.Tests.{dec}
+use Rattle.sets.proofs.Rising.{begins-both, begins-same, begins-rising}
+use Rattle.program.specs.declared.Program.{Program}
+use Rattle.program.specs.Clauses.{clauses}
+use Rattle.program.specs.Valid.{valid}
+use Rattle.stable.proofs.Decides as decides
+use Rattle.search.specs.declared.Outcome.the-variants.{Complete, Refused}
+use Rattle.search.specs.Answer.{listed as searchListed}
+use Rattle.search.proofs.Runs as searches
+use Rattle.fixpoint.specs.Answer.{refused as fixedRefused}
+use Rattle.demands.specs.Demand3.{Run, searched, fixed, lent, outcome, written, exit, listed, allModels, AllModels, BySearch, ByFixpoint, ByRoute, OneRun, TwoRuns, Ran, Demand3}
+use Rattle.demands.proofs.Outcomes.{refused-complete}
+use Rattle.demands.proofs.Searching as searching
+use Rattle.demands.proofs.Fixing as fixing
+
+all-models : (p : Program) → AllModels p
+all-models p = record { rising = decides.rising (p .«atom_count») (clauses p); exactly = decides.listed (p .«atom_count») (clauses p) }
+
+-- the first of all models, as many as are counted
+begins : (p : Program) (r : Run) → listed p r ≡ take (written p r) (allModels p) → length (listed p r) ≡ written p r → Begins (listed p r) (allModels p)
+unfolding Begins
+begins p r e n = ap (λ (k : ℕ). take k (allModels p)) n ∙ sym e
+
+rises : (p : Program) (r : Run) → listed p r ≡ take (written p r) (allModels p) → length (listed p r) ≡ written p r → Rising (listed p r)
+rises p r e n = begins-rising (listed p r) (allModels p) (begins p r e n) (all-models p .rising)
+
+-- ---- a run by search
+module _ (p : Program) (A : ℕ) (l : List ℕ) where
+  search-lowest : listed p (searched A l) ≡ take (written p (searched A l)) (allModels p)
+  unfolding listed written exit searchListed Begins
+  search-lowest = sym (searches.lists-lowest p A l) ∙ ap (λ (k : ℕ). take k (allModels p)) (searching.counted p A l)
+
+  search-run : OneRun p (searched A l)
+  unfolding outcome written exit listed lent searchListed ByRoute
+  search-run = record {
+    lowest = search-lowest;
+    counted = searching.counted p A l;
+    rising = rises p (searched A l) search-lowest (searching.counted p A l);
+    complete-all = searches.complete-lists-all p A l;
+    behind = searches.keeps-rest p A l;
+    places = searches.same-places p A l;
+    nine = (λ e. ⊎-elim (λ v. absurd (searching.by-search p v A l .never-refused 9 e)) (λ f. f) (dec (valid p)), λ f. ap (λ a. a .outcome) (searches.refused p A l f .0));
+    refused = λ n e. ⊎-elim (λ v. absurd (searching.by-search p v A l .never-refused n e)) (λ f. searches.listed-none p A l f) (dec (valid p));
+    by-route = λ v. searching.by-search p v A l;
+  }
+
+-- ---- a run by fixpoint
+module _ (p : Program) (l w v : List ℕ) where
+  fix-lowest : listed p (fixed l w v) ≡ take (written p (fixed l w v)) (allModels p)
+  unfolding listed written exit
+  fix-lowest = fixing.leaves-first (fixing.left p l w v)
+
+  fix-counted : length (listed p (fixed l w v)) ≡ written p (fixed l w v)
+  unfolding listed written exit
+  fix-counted = fixing.leaves-count (fixing.left p l w v)
+
+  -- a table that is not accepted is refused by 9
+  nine-is : valid p ≡ false → (outcome p (fixed l w v) ≡ Refused 9) × (written p (fixed l w v) ≡ 0)
+  unfolding outcome written fixedRefused
+  nine-is f = let e = fixing.refused-nine p l w v f in (ap (λ a. a .outcome) e, ap (λ a. a .written) e)
+
+  fix-all : outcome p (fixed l w v) ≡ Complete → listed p (fixed l w v) ≡ allModels p
+  fix-all e = ⊎-elim
+      (λ t.
+      let f = fixing.by-fixpoint p l w v t in
+      let m = f .complete .0 e .2 in
+      let n = f .writes (λ k i. refused-complete i e) in
+      fix-lowest ∙ take-all (written p (fixed l w v)) (allModels p) (omega arith))
+      (λ f. refused-complete (nine-is f .0) e)
+      (dec (valid p))
+
+  fix-none : (n : ℕ) → outcome p (fixed l w v) ≡ Refused n → listed p (fixed l w v) ≡ []
+  fix-none n e = fix-lowest ∙ ap (λ (k : ℕ). take k (allModels p)) (⊎-elim (λ t. fixing.by-fixpoint p l w v t .writes-none n e) (λ f. nine-is f .1) (dec (valid p)))
+
+  fix-nine : outcome p (fixed l w v) ≡ Refused 9 → valid p ≡ false
+  fix-nine e = ⊎-elim
+      (λ t. absurd (⊎-elim (λ (i : 9 ≡ 11). omega arith) (λ (i : 9 ≡ 12). omega arith) (fixing.by-fixpoint p l w v t .no-other 9 e)))
+      (λ f. f)
+      (dec (valid p))
+
+  fix-run : OneRun p (fixed l w v)
+  unfolding lent written exit ByRoute
+  fix-run = record {
+    lowest = fix-lowest;
+    counted = fix-counted;
+    rising = rises p (fixed l w v) fix-lowest fix-counted;
+    complete-all = fix-all;
+    behind = fixing.leaves-rest (fixing.left p l w v);
+    places = fixing.leaves-length (fixing.left p l w v);
+    nine = (fix-nine, λ f. nine-is f .0);
+    refused = fix-none;
+    by-route = fixing.by-fixpoint p l w v;
+  }
+
+-- ---- any two
+one-run : (p : Program) (r : Run) → OneRun p r
+one-run p (searched A l) = search-run p A l
+one-run p (fixed l w v) = fix-run p l w v
+
+two-runs : (p : Program) (r s : Run) → TwoRuns p r s
+two-runs p r s =
+    let a = one-run p r in
+    let b = one-run p s in
+    let x = begins p r (a .lowest) (a .counted) in
+    let y = begins p s (b .lowest) (b .counted) in
+    record {
+      shorter = λ h. begins-both (listed p r) (listed p s) (allModels p) x y h;
+      longer = λ h. begins-both (listed p s) (listed p r) (allModels p) y x h;
+      equal = λ e. begins-same (listed p r) (listed p s) (allModels p) x y e;
+      all = all-models p;
+      first = a;
+      second = b;
+    }
+
+-- Demand 3.
+pub demand-3 : Demand3
+unfolding outcome written exit
+demand-3 = record {
+  two-runs = two-runs;
+  by-search = λ c. (record { outcome-is = ap (λ a. a .outcome) (c .says); written-is = ap (λ a. a .written) (c .says); exit-is = c .lists }, ap (λ a. a .visited) (c .says));
+  by-fixpoint = λ c. record { outcome-is = ap (λ a. a .outcome) (c .says); written-is = ap (λ a. a .written) (c .says); exit-is = c .lists };
+}

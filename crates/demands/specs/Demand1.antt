@@ -1,0 +1,116 @@
+-- Demand 1: "Bad input is refused by the lowest number of documents 01 and 02 that applies, with lent lists and text untouched;
+-- every other input is accepted; every call ends."
+-- That every call ends is no claim here: a function is proved only together with a measure that falls, and nothing else is built. Assumes nothing.
+use mathlib.Core.Path.{_≡_}
+use mathlib.Core.Logic.{_↔_}
+use mathlib.Core.Bool.{Bool}
+use mathlib.Core.List.{List, [], _∷_, _++_, map}
+use Prim.Native.Nat.{ℕ}
+use lib.ListN.{length}
+use Rattle.sets.specs.Lists.{Each}
+use Rattle.lists.specs.Bytes.{oneIf}
+use Rattle.program.specs.declared.Program.{Program}
+use Rattle.program.specs.Refusals.{Applies, Lowest}
+use Rattle.text.specs.declared.Verdict.{Verdict}
+use Rattle.text.specs.declared.Verdict.the-variants.{Accepted, Refused}
+use Rattle.text.specs.declared.Read.{Read}
+use Rattle.text.specs.declared.Written.{Written}
+use Rattle.text.specs.declared.Written.the-variants as written
+use Rattle.text.specs.Refusals as reading
+use Rattle.text.specs.Reading.{readOf}
+use Rattle.text.specs.Writing.{writeRefusals, writtenLength, Writes}
+use Rattle.stable.specs.declared.Checked.{Checked}
+use Rattle.stable.specs.declared.Checked.the-variants as checked
+use Rattle.stable.specs.Check.{Checks}
+use Rattle.stable.specs.Check as checking
+use Rattle.summary.specs.declared.Summary.{Summary}
+use Rattle.summary.specs.Summary.{summaryOf}
+use Rattle.summary.specs.Summary as summing
+use Rattle.search.specs.declared.Outcome.{Outcome}
+use Rattle.search.specs.declared.Outcome.the-variants as outcome
+use Rattle.search.specs.declared.SearchAnswer.{SearchAnswer}
+use Rattle.search.specs.Answer.{Searches}
+use Rattle.search.specs.Answer as searching
+use Rattle.fixpoint.specs.declared.FixpointAnswer.{FixpointAnswer}
+use Rattle.fixpoint.specs.Answer.{roomOf, Fixes}
+use Rattle.fixpoint.specs.Answer as fixing
+
+-- ---- what is said of a call
+-- a slice that was lent: what it held when the call was made, and what it held when it returned
+pub record Lent : Type 0 where
+  pub entry : List ℕ
+  pub exit : List ℕ
+
+pub record Told : Type 1 where
+  -- the contract of the call
+  pub promised : Type 0
+  -- the numbers that the call meets, each with the test of its sentence
+  pub meets : List (ℕ × Bool)
+  -- "A refusal carries its number": whether its answer is a refusal, and by which
+  pub verdict : Verdict
+  -- every count, value and entry of a table in its answer
+  pub shows : List ℕ
+  -- the lists and texts that it may write; the working slices
+  pub lent : List Lent
+  pub free : List Lent
+
+-- the verdict of each kind of answer
+abbrev pub ofWritten : Written → Verdict
+ofWritten (written.Refused n) = Refused n
+ofWritten (written.Length n) = Accepted
+
+abbrev pub ofChecked : Checked → Verdict
+ofChecked (checked.Refused n) = Refused n
+ofChecked (checked.Violated k) = Accepted
+ofChecked (checked.Smaller j) = Accepted
+ofChecked checked.Stable = Accepted
+
+abbrev pub ofOutcome : Outcome → Verdict
+ofOutcome (outcome.Refused n) = Refused n
+ofOutcome outcome.Complete = Accepted
+ofOutcome outcome.Full = Accepted
+ofOutcome outcome.Spent = Accepted
+
+-- every number of a table
+abbrev pub numbersOf : Program → List ℕ
+numbersOf p = p .«atom_count» ∷ p .«clause_count» ∷ (p .«atom_names» ++ (p .heads ++ (p .bodies ++ p .nafs)))
+
+-- ---- a call that was made: what it was handed, what it answered, and what it was lent. A text that is read, and a list of words that is summed up, cannot be written.
+pub data Call : Type 0 where
+  read : (text : List ℕ) → Read → Call
+  write : Program → (out : Lent) → Written → Call
+  check : Program → (word : ℕ) → Checked → Call
+  summarize : Program → (words : List ℕ) → Summary → Call
+  search : Program → (limit : ℕ) (models : Lent) → SearchAnswer → Call
+  fixpoint : Program → (models work more : Lent) → FixpointAnswer → Call
+
+abbrev told-by : Type 0 → List (ℕ × Bool) → Verdict → List ℕ → List Lent → List Lent → Told
+told-by c ts v ns l f = record { promised = c; meets = ts; verdict = v; shows = ns; lent = l; free = f }
+
+-- "The reader meets 1 to 8, check and summary 9 and 10, the search 9, the fixpoint 9, 11, 12, the writer 9 and 13."
+unfoldable pub told : Call → Told
+told (read b r) = told-by (r ≡ readOf b) (reading.refusals b) (r .verdict) (numbersOf (r .program)) [] []
+told (write p o r) = told-by (Writes p (o .entry) r (o .exit)) (writeRefusals p (o .entry)) (ofWritten r) (writtenLength r ∷ []) (o ∷ []) []
+told (check p w r) = told-by (Checks p w r) (checking.refusals p w) (ofChecked r) [] [] []
+told (summarize p ws r) = told-by (r ≡ summaryOf p ws) (summing.refusals p ws) (r .verdict) (r .occurring ++ map oneIf (r .settled)) [] []
+told (search p A l r) = told-by (Searches p A (l .entry) r (l .exit)) (searching.refusals p) (ofOutcome (r .outcome)) (r .written ∷ r .visited ∷ []) (l ∷ []) []
+told (fixpoint p l w v r) =
+    told-by (Fixes p (l .entry) (w .entry) (v .entry) r (l .exit) (w .exit) (v .exit)) (fixing.refusals p (roomOf (w .entry) (v .entry)))
+    (ofOutcome (r .outcome)) (r .written ∷ []) (l ∷ []) (w ∷ v ∷ [])
+
+-- ---- demand 1 of one call
+pub record Answers (c : Told) : Type 0 where
+  -- "Bad input is refused by the lowest number of documents 01 and 02 that applies"
+  pub refused : (n : ℕ) → (c .verdict ≡ Refused n) ↔ Lowest (c .meets) n
+  -- "every other input is accepted"
+  pub accepted : (c .verdict ≡ Accepted) ↔ ((n : ℕ) → Applies (c .meets) n → ⊥)
+  -- "with lent lists and text untouched"
+  pub untouched : (n : ℕ) → c .verdict ≡ Refused n → Each (λ (s : Lent). s .exit ≡ s .entry) (c .lent)
+  -- "counts are 0"; "an all-zero table"; "no value for any name and none settled"
+  pub nothing : (n : ℕ) → c .verdict ≡ Refused n → Each (λ x. x ≡ 0) (c .shows)
+  -- "What the working slices hold afterwards is free: any words."; each keeps its length
+  pub lengths : Each (λ (s : Lent). length (s .exit) ≡ length (s .entry)) (c .free)
+
+-- ---- demand 1: every call that meets its contract, as every call is proved to
+abbrev pub Demand1 : Type 0
+Demand1 = (c : Call) → told c .promised → Answers (told c)

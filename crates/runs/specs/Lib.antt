@@ -1,2 +1,0 @@
--- The runs of demand 3; the theorem stands in proofs/TwoRuns.antt.
-pub mod Runs

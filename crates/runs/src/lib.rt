@@ -1,1 +1,0 @@
-// Every way to list p-stable models as one type, and what is so of any two runs: definitions and one theorem.
