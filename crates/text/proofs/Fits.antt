@@ -15,12 +15,12 @@ use Rattle.program.specs.Names.{isName}
 use Rattle.program.specs.Refusals.{lowest}
 use Rattle.program.specs.declared.Program.{Program}
 use Rattle.text.specs.declared.Verdict.the-variants.{Refused, Accepted}
-use Rattle.text.specs.Lines.{names, clauseLines, row}
+use Rattle.text.specs.Lines.{HasLine, names, clauseLines, row}
 use Rattle.program.specs.Values.{wordBy}
 use Rattle.text.specs.Tables.{placed, tableOf, zeroTable}
 use Rattle.text.specs.Refusals.{wrongSize, unended, hasForeign, tooManyLines, namesBroken, namesEqual, lineHolds, clauseBroken, onlyZeros, refusal}
 use Rattle.text.specs.Reading.{programOf, readOf}
-use Rattle.text.proofs.Tests.{HasLine, plain-line, both-lines, names-are, clause-lines-are, behind, names-count}
+use Rattle.text.proofs.Tests.{plain-line, both-lines, names-are, clause-lines-are, behind, names-count}
 
 cond-zero : (t : Bool) (n r : ℕ) → cond t (suc n) r ≡ 0 → (t ≡ false) × (r ≡ 0)
 cond-zero true n r h = absurd (omega arith)
