@@ -97,6 +97,7 @@ pub record Counts (c : ℕ) (xs : List ℕ) (r : ℕ) : Type 0 where
   pub is : r ≡ count c xs
   pub small : r ≤ length xs
 
+-- 1 where the test holds, 0 where not
 abbrev pub oneIf : Bool → ℕ
 oneIf true = 1
 oneIf false = 0
