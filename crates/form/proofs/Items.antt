@@ -6,8 +6,8 @@ use Prim.Native.Nat.{ℕ, _+_, _≤_, _<_}
 use native.Mathlib.Omega.{arith}
 use lib.ListN.{length, drop}
 use Rattle.sets.specs.Lists.{every, anyOf}
-use Rattle.lists.specs.Bytes.{same, distinct, pieces, ended, EndsAt}
-use Rattle.lists.proofs.Pieces.{left, part, left-start, left-step, left-done, line-step, line-done}
+use Rattle.lists.specs.Bytes.{same, distinct, pieces, left, ended, EndsAt}
+use Rattle.lists.proofs.Pieces.{part, left-start, left-step, left-done, line-step, line-done}
 
 module _ (c : ℕ) (xs : List ℕ) where
   module _ (p : List ℕ → Bool) where

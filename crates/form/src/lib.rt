@@ -4,12 +4,10 @@ ghost use mathlib.Core.Bool.{false};
 ghost use Prim.Native.Nat.{_≤_};
 ghost use lib.ListN.{length, drop};
 ghost use Rattle.sets.specs.Lists.{every, anyOf};
-ghost use Rattle.lists.specs.Bytes.{same, distinct, pieces, ended};
-ghost use Rattle.lists.proofs.Pieces.{left};
+ghost use Rattle.lists.specs.Bytes.{same, distinct, pieces, left, ended};
 ghost use Rattle.program.specs.Names.{isName};
-ghost use Rattle.text.specs.Lines.{valueOf};
+ghost use Rattle.text.specs.Lines.{HasLine, valueOf};
 ghost use Rattle.text.specs.Refusals.{wrongSize, unended, isForeign, hasForeign, tooManyLines, namesBroken, namesEqual, isValue, lineHolds, clauseBroken, isZero, onlyZeros, refusal};
-ghost use Rattle.text.proofs.Tests.{HasLine};
 use decimal::Parsed;
 
 pub const SPACE: u8 = 32;

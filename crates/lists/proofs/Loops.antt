@@ -14,8 +14,8 @@ use borrow.Author.Tests.{eqb-true, eq-eqb, ne-eqb}
 use Rattle.sets.specs.Lists.{every, anyOf, onward, tabulate}
 use Rattle.sets.proofs.Tests.{both-true, via, via-true, via-false}
 use Rattle.sets.proofs.Lists.{onward-start, onward-step, onward-done, kept-start, kept-not, kept-more, kept-done, lacks-start, lacks-not, lacks-more, lacks-done}
-use Rattle.lists.specs.Bytes.{pieces, ended, index, endOf, count, oneIf, same, distinct, EndsAt, Counts}
-use Rattle.lists.proofs.Pieces.{left, part, left-start, left-step, left-done, line-step, line-done, end-ge}
+use Rattle.lists.specs.Bytes.{pieces, left, ended, index, endOf, count, oneIf, same, distinct, EndsAt, Counts}
+use Rattle.lists.proofs.Pieces.{part, left-start, left-step, left-done, line-step, line-done, end-ge}
 
 -- ---- loops over the pieces
 module _ (c : ℕ) (xs : List ℕ) (p : List ℕ → Bool) where

@@ -12,7 +12,7 @@ use lib.ListN.{length, getD, take, drop, length-drop}
 use lib.Seq.{drop-drop}
 use borrow.Author.Tests.{eqb-true, eq-eqb, le-leb, lt-leb, leb-true, leb-false}
 use Rattle.sets.proofs.Tests.{dec}
-use Rattle.lists.specs.Bytes.{onto, pieces, ended, led, join, close, index, endOf, count}
+use Rattle.lists.specs.Bytes.{onto, pieces, left, ended, led, join, close, index, endOf, count}
 
 length-onto : (x : ℕ) (ps : List (List ℕ)) → length (onto x ps) ≡ length ps
 unfolding onto
@@ -20,10 +20,6 @@ length-onto x [] = refl
 length-onto x (p ∷ ps) = refl
 
 -- ---- the first piece, and the others
--- the pieces from at on; none past the end
-unfoldable pub left : ℕ → List ℕ → ℕ → List (List ℕ)
-left c xs at = cond (leb at (length xs)) (pieces c (drop at xs)) []
-
 -- the part of a list from a to e
 abbrev pub part : List ℕ → ℕ → ℕ → List ℕ
 part xs a e = take (e - a) (drop a xs)

@@ -3,7 +3,7 @@ use mathlib.Core.Path.{_≡_}
 use mathlib.Core.Bool.{Bool, true, false, cond, _&&_}
 use mathlib.Core.List.{List, [], _∷_, _++_}
 use Prim.Native.Nat.{ℕ, zero, suc, _+_, _-_, _≤_, max}
-use lib.Dec.{eqb}
+use lib.Dec.{eqb, leb}
 use lib.ListN.{length, take, drop, replicate}
 use Rattle.sets.specs.Lists.{anyOf}
 
@@ -18,6 +18,11 @@ unfoldable pub pieces : ℕ → List ℕ → List (List ℕ)
 unfolding onto
 pieces c [] = [] ∷ []
 pieces c (x ∷ xs) = cond (eqb x c) ([] ∷ pieces c xs) (onto x (pieces c xs))
+
+-- the pieces from at on; none past the end
+unfoldable pub left : ℕ → List ℕ → ℕ → List (List ℕ)
+unfolding pieces
+left c xs at = cond (leb at (length xs)) (pieces c (drop at xs)) []
 
 -- the pieces that c ends: what stands behind the last c is none
 unfoldable pub ended : ℕ → List ℕ → List (List ℕ)
@@ -92,6 +97,7 @@ pub record Counts (c : ℕ) (xs : List ℕ) (r : ℕ) : Type 0 where
   pub is : r ≡ count c xs
   pub small : r ≤ length xs
 
+-- 1 where the test holds, 0 where not
 abbrev pub oneIf : Bool → ℕ
 oneIf true = 1
 oneIf false = 0

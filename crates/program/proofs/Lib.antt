@@ -1,4 +1,5 @@
 -- The laws that the other crates cite.
+pub mod Values
 pub mod Places
 pub mod Validity
 pub mod Clauses

@@ -4,6 +4,8 @@ use mathlib.Core.List.{List, [], _∷_, map}
 use Prim.Native.Nat.{ℕ, _+_, _*_, _/_, _%_, _^_}
 use lib.Dec.{ltb}
 use Rattle.sets.specs.Lists.{tabulate}
+use Rattle.sets.specs.Words.{bit}
+use Rattle.lists.specs.Bytes.{oneIf}
 use Rattle.program.specs.Clauses.{Clause, clauseOf}
 
 -- "With n names, name i (from 0) has bit 2i for itself and bit 2i+1 for its negation": a word over n atoms has no bit at 2n or above.
@@ -18,6 +20,15 @@ valueIn w i = w / 2 ^ (2 * i) % 4
 unfoldable pub clauseValue : Clause → ℕ → ℕ
 unfolding valueIn
 clauseValue c i = valueIn (c .head) i + 4 * valueIn (c .body) i + 16 * valueIn (c .naf) i
+
+-- The same by membership, "the sum of" 1 where "the name stands in the head", 2 where "its negation does", 4 and 8 for the body,
+-- 16 where ""not name" stands in the body", 32 where ""not negation" does": a part holds the name i where its bit 2i is set, the negation where bit 2i+1 is.
+unfoldable pub sumFor : Clause → ℕ → ℕ
+unfolding bit
+sumFor c i =
+    oneIf (bit (c .head) (2 * i)) + 2 * oneIf (bit (c .head) (2 * i + 1))
+    + 4 * oneIf (bit (c .body) (2 * i)) + 8 * oneIf (bit (c .body) (2 * i + 1))
+    + 16 * oneIf (bit (c .naf) (2 * i)) + 32 * oneIf (bit (c .naf) (2 * i + 1))
 
 -- the word with these values, "name i (from 0) has bit 2i for itself and bit 2i+1 for its negation": that of atom 0 lowest
 unfoldable pub wordOf : List ℕ → ℕ

@@ -7,8 +7,8 @@ use native.Mathlib.Omega.{arith}
 use lib.ListN.{length, getD, take, drop, set, length-take, length-drop}
 use Rattle.sets.specs.Lists.{every}
 use Rattle.sets.proofs.Tests.{both-true}
-use Rattle.lists.specs.Bytes.{pieces, EndsAt, padded, over}
-use Rattle.lists.proofs.Pieces.{left, part, left-start, left-step, left-done}
+use Rattle.lists.specs.Bytes.{pieces, left, EndsAt, padded, over}
+use Rattle.lists.proofs.Pieces.{part, left-start, left-step, left-done}
 use Rattle.lists.proofs.Loops.{ahead, at-end}
 use Rattle.lists.proofs.Writing.{Put, put-start, put-step, put-byte, put-done, put-as, put-room, put-long, part-back}
 use Rattle.lists.proofs.Padding.{padded-long, padded-at}

@@ -11,8 +11,8 @@ use lib.ListN.{length, drop, set, replicate, length-replicate, length-map}
 use borrow.Author.Tests.{eqb-true}
 use Rattle.sets.specs.Lists.{every}
 use Rattle.sets.proofs.Tests.{both-true}
-use Rattle.lists.specs.Bytes.{pieces, ended, EndsAt, padded}
-use Rattle.lists.proofs.Pieces.{left, part, left-start, left-step, left-done, line-step, line-done}
+use Rattle.lists.specs.Bytes.{pieces, left, ended, EndsAt, padded}
+use Rattle.lists.proofs.Pieces.{part, left-start, left-step, left-done, line-step, line-done}
 use Rattle.lists.proofs.Writing.{Put, put-start, put-byte, put-done, put-as, put-room}
 use Rattle.lists.proofs.Padding.{over-padded}
 use Rattle.text.specs.Lines.{row, valueOf}

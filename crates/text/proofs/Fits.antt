@@ -1,7 +1,7 @@
 -- What the tests have shown of an accepted text, and the reader's answer. Assumes nothing.
 use mathlib.Core.Path.{_≡_, refl, sym, ap, _∙_}
 use mathlib.Core.Bool.{Bool, true, false, cond, _&&_}
-use mathlib.Core.List.{List, [], _∷_, map, tail}
+use mathlib.Core.List.{List, [], _∷_, map, map-map, tail}
 use Prim.Native.Nat.{ℕ, suc, _+_, _-_, _≤_}
 use native.Mathlib.Omega.{arith}
 use lib.Dec.{leb}
@@ -14,13 +14,14 @@ use Rattle.lists.proofs.Pieces.{length-ended, end-le}
 use Rattle.program.specs.Names.{isName}
 use Rattle.program.specs.Refusals.{lowest}
 use Rattle.program.specs.declared.Program.{Program}
+use Rattle.program.specs.Clauses.{Clause}
+use Rattle.program.specs.Values.{wordBy, clauseOfValues}
 use Rattle.text.specs.declared.Verdict.the-variants.{Refused, Accepted}
-use Rattle.text.specs.Lines.{names, clauseLines, row}
-use Rattle.program.specs.Values.{wordBy}
+use Rattle.text.specs.Lines.{HasLine, names, clauseLines, row}
 use Rattle.text.specs.Tables.{placed, tableOf, zeroTable}
 use Rattle.text.specs.Refusals.{wrongSize, unended, hasForeign, tooManyLines, namesBroken, namesEqual, lineHolds, clauseBroken, onlyZeros, refusal}
 use Rattle.text.specs.Reading.{programOf, readOf}
-use Rattle.text.proofs.Tests.{HasLine, plain-line, both-lines, names-are, clause-lines-are, behind, names-count}
+use Rattle.text.proofs.Tests.{plain-line, both-lines, names-are, clause-lines-are, behind, names-count}
 
 cond-zero : (t : Bool) (n r : ℕ) → cond t (suc n) r ≡ 0 → (t ≡ false) × (r ≡ 0)
 cond-zero true n r h = absurd (omega arith)
@@ -125,8 +126,11 @@ pub table-is : (b : List ℕ) (n m : ℕ) (nm hs bs fs : List ℕ) → n ≡ len
     → bs ≡ padded 64 (map (wordBy 4) (map row (clauseLines b)))
     → fs ≡ padded 64 (map (wordBy 16) (map row (clauseLines b)))
     → record { «atom_count» = n; «atom_names» = nm; «clause_count» = m; heads = hs; bodies = bs; nafs = fs } ≡ programOf b
-unfolding programOf tableOf
-table-is b n m nm hs bs fs en em ec eh eb ef = rw (en, em, ec, eh, eb, ef, ← length-map (clauseLines b) row)
+unfolding programOf tableOf clauseOfValues
+table-is b n m nm hs bs fs en em ec eh eb ef =
+    let vss = map row (clauseLines b) in
+    let e : length (map clauseOfValues vss) ≡ length (clauseLines b) = length-map vss clauseOfValues ∙ length-map (clauseLines b) row in
+    rw (en, em, ec, eh, eb, ef, e, map-map (λ c. c .head) clauseOfValues vss, map-map (λ c. c .body) clauseOfValues vss, map-map (λ c. c .naf) clauseOfValues vss)
 
 pub read-no : (b : List ℕ) (num : ℕ) (p : Program) → num ≡ refusal b → (num ≡ 0 → ⊥) → p ≡ zeroTable → record { verdict = Refused num; program = p } ≡ readOf b
 unfolding readOf

@@ -1,4 +1,4 @@
--- The laws that the other crates cite; RoundTrip has the theorems.
+-- The laws that the other crates cite; RoundTrip and Writings have the theorems.
 pub mod Values
 pub mod Names
 pub mod Tests
@@ -7,3 +7,4 @@ pub mod Books
 pub mod Tables
 pub mod Accepts
 pub mod RoundTrip
+pub mod Writings

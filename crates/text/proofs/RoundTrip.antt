@@ -1,23 +1,28 @@
--- The round trip, both ways: what is read is what is written. Assumes nothing.
-use mathlib.Core.Path.{_≡_, sym, ap, ap₂, _∙_}
+-- What a text is read as, and the round trip, both ways: what is read is what is written. Assumes nothing.
+use mathlib.Core.Path.{_≡_, sym, ap, ap₂, _∙_, subst, fun-ext}
 use mathlib.Core.Bool.{true}
 use mathlib.Core.Logic.{_↔_, ⊎-elim}
 use mathlib.Core.List.{List, map}
 use Prim.Native.Nat.{ℕ}
 use lib.Dec.{eqb}
-use borrow.Author.Tests.{eq-eqb, eqb-true}
+use lib.ListN.{length}
+use borrow.Author.Tests.{eq-eqb, ne-eqb, eqb-true}
+use Rattle.sets.specs.Lists.{tabulate}
 use Rattle.sets.proofs.Tests.{dec}
 use Rattle.program.specs.declared.Program.{Program}
+use Rattle.program.specs.Clauses.{Clause, rows}
 use Rattle.program.specs.Names.{namesOf}
+use Rattle.program.specs.Values.{clauseOfValues, clauseValues, sumFor}
 use Rattle.program.specs.Valid.{valid, Sized}
+use Rattle.program.proofs.Values.{value-sum}
 use Rattle.text.specs.declared.Verdict.the-variants.{Accepted}
 use Rattle.text.specs.Lines.{names, clauseLines, row}
-use Rattle.text.specs.Tables.{tableOf}
+use Rattle.text.specs.Tables.{tableOf, zeroTable}
 use Rattle.text.specs.Render.{bookText, valuesOf, render}
 use Rattle.text.specs.Refusals.{refusal}
-use Rattle.text.specs.Reading.{refusedBy, programOf, readOf, IsAccepted}
+use Rattle.text.specs.Reading.{refusedBy, programOf, readOf, IsAccepted, ReadsExactly}
 use Rattle.text.proofs.Books.{text-back, names-again, rows-again}
-use Rattle.text.proofs.Tables.{names-of-table, values-of-table, table-back, good-table, valid-with, sized-with}
+use Rattle.text.proofs.Tables.{names-of-table, rows-of-table, all-values, values-of-table, table-back, clauses-again, good-table, valid-with, sized-with}
 use Rattle.text.proofs.Accepts.{accept-text, good-read}
 
 -- ---- the verdict is the refusal's number, and an accepted text comes with its table
@@ -27,6 +32,11 @@ refused-by b = ⊎-elim
     (λ t. rw t (sym (eqb-true (refusal b) 0 t)))
     (λ f. rw f)
     (dec (eqb (refusal b) 0))
+
+-- "the reader's comes with an all-zero table"
+pub refused-table : (b : List ℕ) → (refusal b ≡ 0 → ⊥) → readOf b .program ≡ zeroTable
+unfolding readOf
+refused-table b h = rw (ne-eqb (refusal b) 0 h)
 
 cleared : (b : List ℕ) → IsAccepted b → refusal b ≡ 0
 cleared b a = sym (refused-by b) ∙ a
@@ -46,7 +56,8 @@ render-read : (b : List ℕ) → refusal b ≡ 0 → render (programOf b) ≡ b
 unfolding render programOf
 render-read b z =
     let g = good-read b z in
-    ap₂ bookText (names-of-table (names b) (map row (clauseLines b)) (g .named)) (values-of-table (names b) (map row (clauseLines b)) (g .ruled))
+    let vss = map row (clauseLines b) in
+    ap₂ bookText (names-of-table (names b) (map clauseOfValues vss) (g .named)) (values-of-table (names b) vss (g .ruled))
     ∙ text-back b z
 
 accept-render : (p : Program) → Sized p → valid p ≡ true → refusal (render p) ≡ 0
@@ -57,7 +68,8 @@ read-render : (p : Program) → Sized p → valid p ≡ true → programOf (rend
 unfolding programOf render
 read-render p s v =
     let g = good-table p s v in
-    ap₂ tableOf (names-again (namesOf p) (valuesOf p) (g .any) (g .named)) (rows-again _ (namesOf p) (valuesOf p) (g .any) (g .named) (g .ruled))
+    let e = rows-again _ (namesOf p) (valuesOf p) (g .any) (g .named) (g .ruled) in
+    ap₂ tableOf (names-again (namesOf p) (valuesOf p) (g .any) (g .named)) (ap (map clauseOfValues) e ∙ clauses-again p s v)
     ∙ table-back p s v
 
 valid-read : (b : List ℕ) → refusal b ≡ 0 → valid (programOf b) ≡ true
@@ -68,7 +80,29 @@ sized-read : (b : List ℕ) → refusal b ≡ 0 → Sized (programOf b)
 unfolding programOf
 sized-read b z = sized-with (names b) (map row (clauseLines b)) (good-read b z)
 
+-- the values of a clause are its sums over membership
+values-sums : (n : ℕ) → clauseValues n ≡ (λ c. tabulate (sumFor c) n)
+unfolding clauseValues
+values-sums n = fun-ext (λ (c : Clause). ap (λ (f : ℕ → ℕ). tabulate f n) (fun-ext (value-sum c)))
+
+exactly : (b : List ℕ) → refusal b ≡ 0 → ReadsExactly b (programOf b)
+unfolding programOf
+exactly b z =
+    let g = good-read b z in
+    let n = length (names b) in
+    let vss = map row (clauseLines b) in
+    let e = rows-of-table (names b) (map clauseOfValues vss) in
+    record {
+      names-read = names-of-table (names b) (map clauseOfValues vss) (g .named);
+      clauses-read = e;
+      values-read = sym (all-values n vss (g .ruled)) ∙ ap₂ (λ (f : Clause → List ℕ) (cs : List Clause). map f cs) (values-sums n) (sym e);
+    }
+
 -- ==== the theorems
+
+-- "A book is read as exactly its clauses": the names of its first line, and a clause for each further line, by the values on it.
+pub reads-exactly : (b : List ℕ) → IsAccepted b → ReadsExactly b (readOf b .program)
+reads-exactly b a = let z = cleared b a in subst (λ (p : Program). ReadsExactly b p) (sym (program-is b z)) (exactly b z)
 
 -- An accepted text is the text of the program that it is read as, byte for byte.
 pub written-back : (b : List ℕ) → IsAccepted b → render (readOf b .program) ≡ b

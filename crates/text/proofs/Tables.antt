@@ -1,4 +1,4 @@
--- Tables to names and rows, and back. Assumes nothing.
+-- Tables to names and clauses, clauses to rows of values, and back. Assumes nothing.
 use mathlib.Core.Path.{_≡_, refl, sym, ap, ap₂, _∙_}
 use mathlib.Core.Bool.{Bool, true, false, cond, not, _&&_}
 use mathlib.Core.Logic.{⊎-elim}
@@ -19,9 +19,9 @@ use Rattle.lists.proofs.Loops.{same-true, same-self}
 use Rattle.lists.proofs.Pieces.{index-le}
 use Rattle.lists.proofs.Padding.{padded-long, padded-back, padded-tail, zeros-are}
 use Rattle.program.specs.declared.Program.{Program}
-use Rattle.program.specs.Clauses.{Clause, clauseOf, clauseAt, rowsOf, rows}
+use Rattle.program.specs.Clauses.{Clause, clauseAt, rowsOf, rows}
 use Rattle.program.specs.Names.{isName, place, nameAt, namesOf}
-use Rattle.program.specs.Values.{isWord, valueIn, wordOf, bitsOf, wordBy, clauseValue, clauseValues}
+use Rattle.program.specs.Values.{isWord, valueIn, wordOf, bitsOf, wordBy, clauseOfValues, clauseValue, clauseValues}
 use Rattle.program.specs.Valid.{zeroFrom, isPlace, namesValid, isClause, clausesValid, valid, Sized}
 use Rattle.program.proofs.Places.{place-long}
 use Rattle.program.proofs.Validity.{valid-names, valid-clauses, clause-below}
@@ -78,11 +78,11 @@ names-are-named : (Y : List ℕ) (k i : ℕ) → upFrom (nameAt Y) k i ≡ map n
 unfolding nameAt
 names-are-named Y k i = sym (map-upFrom named (place Y) k i)
 
-pub names-of-table : (ns vss : List (List ℕ)) → every isName ns ≡ true → namesOf (tableOf ns vss) ≡ ns
+pub names-of-table : (ns : List (List ℕ)) (cs : List Clause) → every isName ns ≡ true → namesOf (tableOf ns cs) ≡ ns
 unfolding namesOf tableOf tabulate
-names-of-table ns vss h = names-are-named (padded 96 (placed ns)) (length ns) 0 ∙ ap (map named) (places-of ns h) ∙ trims ns h
+names-of-table ns cs h = names-are-named (padded 96 (placed ns)) (length ns) 0 ∙ ap (map named) (places-of ns h) ∙ trims ns h
 
--- ---- the rows of a table
+-- ---- the values of a clause that is made of values
 pub bits-suc : (w i : ℕ) → valueIn w (suc i) ≡ valueIn (w / 4) i
 unfolding valueIn
 bits-suc w i =
@@ -116,12 +116,8 @@ small-at [] i h = omega arith
 small-at (v ∷ vs) zero h = ltb-true v 64 (both-true (ltb v 64) (every isSmall vs) h .0)
 small-at (v ∷ vs) (suc i) h = small-at vs i (both-true (ltb v 64) (every isSmall vs) h .1)
 
--- the clause of a row
-abbrev clauseFrom : List ℕ → Clause
-clauseFrom vs = clauseOf (wordBy 1 vs) (wordBy 4 vs) (wordBy 16 vs)
-
-value-is : (vs : List ℕ) (i : ℕ) → every isSmall vs ≡ true → clauseValue (clauseFrom vs) i ≡ getD vs i 0
-unfolding clauseValue bitsOf
+value-is : (vs : List ℕ) (i : ℕ) → every isSmall vs ≡ true → clauseValue (clauseOfValues vs) i ≡ getD vs i 0
+unfolding clauseOfValues clauseValue bitsOf
 value-is vs i h = omega (arith, word-at 1 vs i refl, word-at 4 vs i refl, word-at 16 vs i refl, small-at vs i h)
 
 up-is : (f : ℕ → ℕ) (vs : List ℕ) (i : ℕ) → ((j : ℕ) → f (i + j) ≡ getD vs j 0) → upFrom f (length vs) i ≡ vs
@@ -130,11 +126,20 @@ up-is f [] i h = refl
 up-is f (v ∷ vs) i h = ap₂ (λ (x : ℕ) (xs : List ℕ). x ∷ xs) (ap f (sym (add-zero i)) ∙ h 0)
     (up-is f vs (suc i) (λ j. let e : suc i + j ≡ i + suc j = omega arith in ap f e ∙ h (suc j)))
 
-values-of : (n : ℕ) (vs : List ℕ) → isRow n vs ≡ true → clauseValues n (clauseFrom vs) ≡ vs
+values-of : (n : ℕ) (vs : List ℕ) → isRow n vs ≡ true → clauseValues n (clauseOfValues vs) ≡ vs
 unfolding clauseValues tabulate
 values-of n vs h =
-    ap (λ (m : ℕ). upFrom (clauseValue (clauseFrom vs)) m 0) (sym (row-long n vs h))
-    ∙ up-is (clauseValue (clauseFrom vs)) vs 0 (λ j. ap (clauseValue (clauseFrom vs)) (zero-add j) ∙ value-is vs j (row-small n vs h))
+    let f = clauseValue (clauseOfValues vs) in
+    ap (λ (m : ℕ). upFrom f m 0) (sym (row-long n vs h)) ∙ up-is f vs 0 (λ j. ap f (zero-add j) ∙ value-is vs j (row-small n vs h))
+
+pub all-values : (n : ℕ) (vss : List (List ℕ)) → every (isRow n) vss ≡ true → map (clauseValues n) (map clauseOfValues vss) ≡ vss
+unfolding every
+all-values n [] h = refl
+all-values n (r ∷ vss) h =
+    let a = both-true (isRow n r) (every (isRow n) vss) h in
+    ap₂ (λ (l : List ℕ) (ls : List (List ℕ)). l ∷ ls) (values-of n r (a .0)) (all-values n vss (a .1))
+
+-- ---- the clauses of a table
 
 first-of : (H : List ℕ) (w : ℕ) (r : List ℕ) (i : ℕ) → drop i H ≡ w ∷ r → getD H i 0 ≡ w
 first-of H w r i e = ap (λ (n : ℕ). getD H n 0) (sym (add-zero i)) ∙ sym (getD-drop i H 0 0) ∙ ap (λ (l : List ℕ). getD l 0 0) e
@@ -142,33 +147,30 @@ first-of H w r i e = ap (λ (n : ℕ). getD H n 0) (sym (add-zero i)) ∙ sym (g
 rest-of : (H : List ℕ) (w : ℕ) (r : List ℕ) (i : ℕ) → drop i H ≡ w ∷ r → drop (suc i) H ≡ r
 rest-of H w r i e = ap (λ (n : ℕ). drop n H) (sym (add-one i)) ∙ sym (drop-drop 1 i H) ∙ ap (drop 1) e
 
--- the clauses that a table of rows has
-clauses-up : (H B F x y z : List ℕ) (vss : List (List ℕ)) (i : ℕ)
-    → drop i H ≡ map (wordBy 1) vss ++ x → drop i B ≡ map (wordBy 4) vss ++ y → drop i F ≡ map (wordBy 16) vss ++ z
-    → upFrom (clauseAt H B F) (length vss) i ≡ map clauseFrom vss
+-- columns that begin with the parts of some clauses hold those clauses
+clauses-up : (H B F x y z : List ℕ) (cs : List Clause) (i : ℕ)
+    → drop i H ≡ map (λ c. c .head) cs ++ x → drop i B ≡ map (λ c. c .body) cs ++ y → drop i F ≡ map (λ c. c .naf) cs ++ z
+    → upFrom (clauseAt H B F) (length cs) i ≡ cs
 unfolding upFrom
 clauses-up H B F x y z [] i a b c = refl
-clauses-up H B F x y z (r ∷ vss) i a b c =
+clauses-up H B F x y z (r ∷ cs) i a b c =
     ap₂ (λ (l : Clause) (ls : List Clause). l ∷ ls)
     (rw (first-of H _ _ i a, first-of B _ _ i b, first-of F _ _ i c))
-    (clauses-up H B F x y z vss (suc i) (rest-of H _ _ i a) (rest-of B _ _ i b) (rest-of F _ _ i c))
+    (clauses-up H B F x y z cs (suc i) (rest-of H _ _ i a) (rest-of B _ _ i b) (rest-of F _ _ i c))
 
-clauses-of : (vss : List (List ℕ)) → rowsOf (padded 64 (map (wordBy 1) vss)) (padded 64 (map (wordBy 4) vss)) (padded 64 (map (wordBy 16) vss)) (length vss) ≡ map clauseFrom vss
+clauses-of : (cs : List Clause) → rowsOf (padded 64 (map (λ c. c .head) cs)) (padded 64 (map (λ c. c .body) cs)) (padded 64 (map (λ c. c .naf) cs)) (length cs) ≡ cs
 unfolding padded rowsOf tabulate
-clauses-of vss = clauses-up _ _ _ _ _ _ vss 0 refl refl refl
+clauses-of cs = clauses-up _ _ _ _ _ _ cs 0 refl refl refl
 
-all-values : (n : ℕ) (vss : List (List ℕ)) → every (isRow n) vss ≡ true → map (clauseValues n) (map clauseFrom vss) ≡ vss
-unfolding every
-all-values n [] h = refl
-all-values n (r ∷ vss) h =
-    let a = both-true (isRow n r) (every (isRow n) vss) h in
-    ap₂ (λ (l : List ℕ) (ls : List (List ℕ)). l ∷ ls) (values-of n r (a .0)) (all-values n vss (a .1))
+pub rows-of-table : (ns : List (List ℕ)) (cs : List Clause) → rows (tableOf ns cs) ≡ cs
+unfolding rows tableOf
+rows-of-table ns cs = clauses-of cs
 
-pub values-of-table : (ns vss : List (List ℕ)) → every (isRow (length ns)) vss ≡ true → valuesOf (tableOf ns vss) ≡ vss
+pub values-of-table : (ns vss : List (List ℕ)) → every (isRow (length ns)) vss ≡ true → valuesOf (tableOf ns (map clauseOfValues vss)) ≡ vss
 unfolding valuesOf rows tableOf
-values-of-table ns vss h = ap (map (clauseValues (length ns))) (clauses-of vss) ∙ all-values (length ns) vss h
+values-of-table ns vss h = ap (map (clauseValues (length ns))) (clauses-of (map clauseOfValues vss)) ∙ all-values (length ns) vss h
 
--- ---- a valid table is the table of its names and rows
+-- ---- a valid table is the table of its names and clauses
 place-back : (P : List ℕ) → length P ≡ 8 → isPlace P ≡ true → padded 8 (named P) ≡ P
 unfolding isPlace zeroFrom
 place-back P l h =
@@ -232,14 +234,17 @@ module _ (n : ℕ) (c : Clause) where
   unfolding clauseValue bitsOf
   naf-back = part-back 16 (c .naf) (λ t. omega (arith, bits-lt (c .head) t, bits-lt (c .body) t, bits-lt (c .naf) t))
 
-columns-back : (k n : ℕ) (sel : Clause → ℕ) → ((c : Clause) → isClause n c ≡ true → wordBy k (clauseValues n c) ≡ sel c)
-    → (cl : ℕ → Clause) (m i : ℕ) → every (isClause n) (upFrom cl m i) ≡ true
-    → map (wordBy k) (map (clauseValues n) (upFrom cl m i)) ≡ upFrom (λ j. sel (cl j)) m i
-unfolding upFrom every
-columns-back k n sel g cl zero i v = refl
-columns-back k n sel g cl (suc m) i v =
-    let a = both-true (isClause n (cl i)) (every (isClause n) (upFrom cl m (suc i))) v in
-    ap₂ (λ (x : ℕ) (xs : List ℕ). x ∷ xs) (g (cl i) (a .0)) (columns-back k n sel g cl m (suc i) (a .1))
+  -- a clause over n names is the clause with its values
+  clause-back : isClause n c ≡ true → clauseOfValues (clauseValues n c) ≡ c
+  unfolding clauseOfValues
+  clause-back h = let s = clause-below n c h in rw (head-back (s .heads), body-back (s .bodies), naf-back (s .nafs))
+
+clauses-back : (n : ℕ) (cs : List Clause) → every (isClause n) cs ≡ true → map clauseOfValues (map (clauseValues n) cs) ≡ cs
+unfolding every
+clauses-back n [] h = refl
+clauses-back n (c ∷ cs) h =
+    let a = both-true (isClause n c) (every (isClause n) cs) h in
+    ap₂ (λ (l : Clause) (ls : List Clause). l ∷ ls) (clause-back n c (a .0)) (clauses-back n cs (a .1))
 
 up-take : (H : List ℕ) (m i : ℕ) → i + m ≤ length H → upFrom (λ j. getD H j 0) m i ≡ take m (drop i H)
 unfolding upFrom
@@ -247,13 +252,10 @@ up-take H zero i h = refl
 up-take H (suc m) i h =
     ap (λ (xs : List ℕ). getD H i 0 ∷ xs) (up-take H m (suc i) (omega arith)) ∙ ap (take (suc m)) (sym (drop-cons H i 0 (omega arith)))
 
-column-is : (k n : ℕ) (sel : Clause → ℕ) → ((c : Clause) → isClause n c ≡ true → wordBy k (clauseValues n c) ≡ sel c)
-    → (cl : ℕ → Clause) (H : List ℕ) (m : ℕ) → ((j : ℕ) → sel (cl j) ≡ getD H j 0) → length H ≡ 64 → m ≤ 64 → every (isClause n) (upFrom cl m 0) ≡ true
-    → zeroFrom m H ≡ true → padded 64 (map (wordBy k) (map (clauseValues n) (upFrom cl m 0))) ≡ H
+-- a column with zeros from m on is its first m words, padded
+column-is : (H : List ℕ) (m : ℕ) → length H ≡ 64 → m ≤ 64 → zeroFrom m H ≡ true → padded 64 (upFrom (λ j. getD H j 0) m 0) ≡ H
 unfolding zeroFrom
-column-is k n sel g cl H m s l b v z =
-    ap (padded 64) (columns-back k n sel g cl m 0 v ∙ up-ext (λ j. sel (cl j)) (λ j. getD H j 0) m 0 0 (λ t. s (0 + t)) ∙ up-take H m 0 (omega arith))
-    ∙ padded-back 64 m H l b z
+column-is H m l b z = ap (padded 64) (up-take H m 0 (omega arith)) ∙ padded-back 64 m H l b z
 
 module _ (p : Program) (s : Sized p) (v : valid p ≡ true) where
   names-column : padded 96 (placed (namesOf p)) ≡ p .«atom_names»
@@ -266,23 +268,28 @@ module _ (p : Program) (s : Sized p) (v : valid p ≡ true) where
       ∙ ap (padded 96) (places-back Y n 0 (omega (arith, t .few, s .names)) (t .named))
       ∙ padded-back 96 (8 * n) Y (s .names) (omega (arith, t .few)) (t .blank)
 
-  -- the table of its names and rows is the table
-  pub table-back : tableOf (namesOf p) (valuesOf p) ≡ p
-  unfolding tableOf namesOf valuesOf rows rowsOf tabulate
+  -- the table of its names and clauses is the table
+  pub table-back : tableOf (namesOf p) (rows p) ≡ p
+  unfolding tableOf namesOf rows rowsOf tabulate
   table-back =
       let t = valid-clauses p v in
       let n = p .«atom_count» in
       let m = p .«clause_count» in
       let cl = clauseAt (p .heads) (p .bodies) (p .nafs) in
       let e1 : length (upFrom (nameAt (p .«atom_names»)) n 0) ≡ n = length-upFrom (nameAt (p .«atom_names»)) n 0 in
-      let e3 : length (map (clauseValues n) (upFrom cl m 0)) ≡ m = length-map (upFrom cl m 0) (clauseValues n) ∙ length-upFrom cl m 0 in
-      let e4 : padded 64 (map (wordBy 1) (map (clauseValues n) (upFrom cl m 0))) ≡ p .heads =
-      column-is 1 n (λ c. c .head) (λ c h. head-back n c (clause-below n c h .heads)) cl (p .heads) m (λ j. refl) (s .heads) (t .short) (t .ruled) (t .no-heads) in
-      let e5 : padded 64 (map (wordBy 4) (map (clauseValues n) (upFrom cl m 0))) ≡ p .bodies =
-      column-is 4 n (λ c. c .body) (λ c h. body-back n c (clause-below n c h .bodies)) cl (p .bodies) m (λ j. refl) (s .bodies) (t .short) (t .ruled) (t .no-bodies) in
-      let e6 : padded 64 (map (wordBy 16) (map (clauseValues n) (upFrom cl m 0))) ≡ p .nafs =
-      column-is 16 n (λ c. c .naf) (λ c h. naf-back n c (clause-below n c h .nafs)) cl (p .nafs) m (λ j. refl) (s .nafs) (t .short) (t .ruled) (t .no-nafs) in
+      let e3 : length (upFrom cl m 0) ≡ m = length-upFrom cl m 0 in
+      let e4 : padded 64 (map (λ c. c .head) (upFrom cl m 0)) ≡ p .heads =
+      ap (padded 64) (map-upFrom (λ c. c .head) cl m 0) ∙ column-is (p .heads) m (s .heads) (t .short) (t .no-heads) in
+      let e5 : padded 64 (map (λ c. c .body) (upFrom cl m 0)) ≡ p .bodies =
+      ap (padded 64) (map-upFrom (λ c. c .body) cl m 0) ∙ column-is (p .bodies) m (s .bodies) (t .short) (t .no-bodies) in
+      let e6 : padded 64 (map (λ c. c .naf) (upFrom cl m 0)) ≡ p .nafs =
+      ap (padded 64) (map-upFrom (λ c. c .naf) cl m 0) ∙ column-is (p .nafs) m (s .nafs) (t .short) (t .no-nafs) in
       rw (e1, names-column, e3, e4, e5, e6)
+
+  -- each clause is the clause with its values
+  pub clauses-again : map clauseOfValues (valuesOf p) ≡ rows p
+  unfolding valuesOf rows
+  clauses-again = clauses-back (p .«atom_count») _ (valid-clauses p v .ruled)
 
 -- ---- the names and rows of a valid table are good
 names-good : (ps : List (List ℕ)) → every isPlace ps ≡ true → every isName (map named ps) ≡ true
@@ -436,8 +443,8 @@ words-zero (v ∷ vs) h a b c =
     let c1 : v / 16 % 4 ≡ 0 = omega (arith, c) in
     rw (eq-eqb 0 v (zero-of v l a1 b1 c1), words-zero vs (w .1) (omega (arith, a)) (omega (arith, b)) (omega (arith, c)))
 
-row-clause : (n : ℕ) (vs : List ℕ) → isRow n vs ≡ true → every (eqb 0) vs ≡ false → isClause n (clauseFrom vs) ≡ true
-unfolding isClause isWord
+row-clause : (n : ℕ) (vs : List ℕ) → isRow n vs ≡ true → every (eqb 0) vs ≡ false → isClause n (clauseOfValues vs) ≡ true
+unfolding isClause isWord clauseOfValues
 row-clause n vs h t =
     let e : 2 ^ (2 * length vs) ≡ 2 ^ (2 * n) = ap (λ (m : ℕ). 2 ^ (2 * m)) (row-long n vs h) in
     let z : eqb (wordBy 1 vs) 0 && eqb (wordBy 4 vs) 0 && eqb (wordBy 16 vs) 0 ≡ false = ⊎-elim
@@ -452,7 +459,7 @@ row-clause n vs h t =
       z,
     )
 
-rows-clauses : (n : ℕ) (vss : List (List ℕ)) → every (isRow n) vss ≡ true → anyOf (every (eqb 0)) vss ≡ false → every (isClause n) (map clauseFrom vss) ≡ true
+rows-clauses : (n : ℕ) (vss : List (List ℕ)) → every (isRow n) vss ≡ true → anyOf (every (eqb 0)) vss ≡ false → every (isClause n) (map clauseOfValues vss) ≡ true
 unfolding every anyOf
 rows-clauses n [] h t = refl
 rows-clauses n (r ∷ vss) h t =
@@ -460,32 +467,39 @@ rows-clauses n (r ∷ vss) h t =
     let s = both-false (every (eqb 0) r) (anyOf (every (eqb 0)) vss) t in
     rw (row-clause n r (p .0) (s .0), rows-clauses n vss (p .1) (s .1))
 
+-- a column of the clauses of some rows: as many words as there are rows
+column-long : (sel : Clause → ℕ) (vss : List (List ℕ)) → length (map sel (map clauseOfValues vss)) ≡ length vss
+column-long sel vss = length-map (map clauseOfValues vss) sel ∙ length-map vss clauseOfValues
+
 module _ (ns vss : List (List ℕ)) (g : Good ns vss) where
-  pub valid-with : valid (tableOf ns vss) ≡ true
+  pub valid-with : valid (tableOf ns (map clauseOfValues vss)) ≡ true
   unfolding valid namesValid clausesValid zeroFrom tableOf
   valid-with =
       let n = length ns in
-      let m = length vss in
+      let cs = map clauseOfValues vss in
+      let m = length cs in
       rw (
         le-leb 1 n (g .any),
         le-leb n 12 (g .few),
-        le-leb m 64 (g .short),
+        le-leb m 64 (omega (arith, length-map vss clauseOfValues, g .short)),
         places-of ns (g .named),
         padded-places ns (g .named),
         pads-apart ns (g .named) (g .apart),
         padded-tail 96 (8 * n) (placed ns) (placed-long ns (g .named)),
-        clauses-of vss,
+        clauses-of cs,
         rows-clauses n vss (g .ruled) (g .told),
-        padded-tail 64 m (map (wordBy 1) vss) (length-map vss (wordBy 1)),
-        padded-tail 64 m (map (wordBy 4) vss) (length-map vss (wordBy 4)),
-        padded-tail 64 m (map (wordBy 16) vss) (length-map vss (wordBy 16)),
+        padded-tail 64 m (map (λ c. c .head) cs) (length-map cs (λ c. c .head)),
+        padded-tail 64 m (map (λ c. c .body) cs) (length-map cs (λ c. c .body)),
+        padded-tail 64 m (map (λ c. c .naf) cs) (length-map cs (λ c. c .naf)),
       )
 
-  pub sized-with : Sized (tableOf ns vss)
+  pub sized-with : Sized (tableOf ns (map clauseOfValues vss))
   unfolding tableOf
-  sized-with = record {
-    names = padded-long 96 (placed ns) (omega (arith, placed-long ns (g .named), g .few));
-    heads = padded-long 64 (map (wordBy 1) vss) (omega (arith, length-map vss (wordBy 1), g .short));
-    bodies = padded-long 64 (map (wordBy 4) vss) (omega (arith, length-map vss (wordBy 4), g .short));
-    nafs = padded-long 64 (map (wordBy 16) vss) (omega (arith, length-map vss (wordBy 16), g .short));
-  }
+  sized-with =
+      let short : (sel : Clause → ℕ) → length (map sel (map clauseOfValues vss)) ≤ 64 = λ sel. omega (arith, column-long sel vss, g .short) in
+      record {
+        names = padded-long 96 (placed ns) (omega (arith, placed-long ns (g .named), g .few));
+        heads = padded-long 64 _ (short (λ c. c .head));
+        bodies = padded-long 64 _ (short (λ c. c .body));
+        nafs = padded-long 64 _ (short (λ c. c .naf));
+      }

@@ -14,12 +14,8 @@ use Rattle.lists.specs.Bytes.{distinct, pieces, ended, index, endOf, EndsAt, Co
 use Rattle.lists.proofs.Pieces.{line-step, length-ended, length-pieces}
 use Rattle.program.specs.Names.{isName}
 use Rattle.program.specs.Refusals.{lowest}
-use Rattle.text.specs.Lines.{firstLine, names, clauseLines}
+use Rattle.text.specs.Lines.{HasLine, firstLine, names, clauseLines}
 use Rattle.text.specs.Refusals.{wrongSize, unended, hasForeign, tooManyLines, namesBroken, namesEqual, isValue, lineHolds, clauseBroken, isZero, onlyZeros, refusal}
-
--- the text has a line
-unfoldable pub HasLine : List ℕ → Type 0
-HasLine b = endOf 10 b 0 < length b
 
 -- a text that is not empty, and whose last byte is 10
 has-last : (x : ℕ) (xs : List ℕ) → getD (x ∷ xs) (length xs) 0 ≡ 10 → index 10 (x ∷ xs) < suc (length xs)

@@ -1,8 +1,9 @@
 -- The lines of a book and the items on them. Assumes nothing.
 use mathlib.Core.Bool.{Bool}
 use mathlib.Core.List.{List, [], _∷_, _++_, map, tail}
-use Prim.Native.Nat.{ℕ}
-use Rattle.lists.specs.Bytes.{pieces, ended, join}
+use Prim.Native.Nat.{ℕ, _<_}
+use lib.ListN.{length}
+use Rattle.lists.specs.Bytes.{pieces, ended, endOf, join}
 use Rattle.decimal.specs.Decimal.{decimal, numberOf}
 
 -- ---- written
@@ -29,6 +30,10 @@ lines b = ended 10 b
 -- the items on a line
 abbrev pub items : List ℕ → List (List ℕ)
 items l = pieces 32 l
+
+-- the text has a line: byte 10 stands in it
+unfoldable pub HasLine : List ℕ → Type 0
+HasLine b = endOf 10 b 0 < length b
 
 abbrev pub firstLine : List (List ℕ) → List ℕ
 firstLine [] = []

@@ -4,7 +4,12 @@ use mathlib.Core.Bool.{cond}
 use mathlib.Core.List.{List, map}
 use Prim.Native.Nat.{ℕ}
 use lib.Dec.{eqb}
+use lib.ListN.{length}
+use Rattle.sets.specs.Lists.{tabulate}
 use Rattle.program.specs.declared.Program.{Program}
+use Rattle.program.specs.Clauses.{rows}
+use Rattle.program.specs.Names.{namesOf}
+use Rattle.program.specs.Values.{clauseOfValues, sumFor}
 use Rattle.text.specs.declared.Read.{Read}
 use Rattle.text.specs.declared.Verdict.{Verdict}
 use Rattle.text.specs.declared.Verdict.the-variants.{Accepted, Refused}
@@ -17,9 +22,9 @@ abbrev pub refusedBy : Verdict → ℕ
 refusedBy Accepted = 0
 refusedBy (Refused r) = r
 
--- the table of a text that no refusal meets
+-- the table of a text that no refusal meets: the names on its first line, and for each further line the clause with its values
 unfoldable pub programOf : List ℕ → Program
-programOf b = tableOf (names b) (map row (clauseLines b))
+programOf b = tableOf (names b) (map clauseOfValues (map row (clauseLines b)))
 
 -- the reader's answer: "the reader's comes with an all-zero table"
 unfoldable pub readOf : List ℕ → Read
@@ -30,3 +35,10 @@ readOf b = cond (eqb (refusal b) 0)
 -- the reader takes the text
 abbrev pub IsAccepted : List ℕ → Type 0
 IsAccepted b = refusedBy (readOf b .verdict) ≡ 0
+
+-- The text is read as exactly its clauses: the table has the names of its first line, and the clauses of its further lines, one for each.
+-- By membership: the values on those lines are, for each clause of the table and "each name in that order", the sum for where the name stands.
+pub record ReadsExactly (b : List ℕ) (p : Program) : Type 0 where
+  pub names-read : namesOf p ≡ names b
+  pub clauses-read : rows p ≡ map clauseOfValues (map row (clauseLines b))
+  pub values-read : map row (clauseLines b) ≡ map (λ c. tabulate (sumFor c) (length (names b))) (rows p)

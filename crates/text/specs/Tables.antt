@@ -1,24 +1,24 @@
--- The table of names and rows of values. Assumes nothing.
+-- The table of names and clauses. Assumes nothing.
 use mathlib.Core.List.{List, map, flatMap}
 use Prim.Native.Nat.{ℕ}
 use lib.ListN.{length, replicate}
 use Rattle.lists.specs.Bytes.{padded}
 use Rattle.program.specs.declared.Program.{Program}
-use Rattle.program.specs.Values.{headOf, bodyOf, nafOf}
+use Rattle.program.specs.Clauses.{Clause}
 
 -- names, each in a place of eight bytes
 unfoldable pub placed : List (List ℕ) → List ℕ
 placed ns = flatMap (padded 8) ns
 
 -- "A table is the read book; unused places in it hold zero."
-unfoldable pub tableOf : List (List ℕ) → List (List ℕ) → Program
-tableOf ns rows = record {
+unfoldable pub tableOf : List (List ℕ) → List Clause → Program
+tableOf ns cs = record {
   «atom_count» = length ns;
   «atom_names» = padded 96 (placed ns);
-  «clause_count» = length rows;
-  heads = padded 64 (map headOf rows);
-  bodies = padded 64 (map bodyOf rows);
-  nafs = padded 64 (map nafOf rows);
+  «clause_count» = length cs;
+  heads = padded 64 (map (λ c. c .head) cs);
+  bodies = padded 64 (map (λ c. c .body) cs);
+  nafs = padded 64 (map (λ c. c .naf) cs);
 }
 
 -- "an all-zero table"
