@@ -35,12 +35,15 @@ pub record Reached (Q : List WordRule) (room k : ℕ) : Type 0 where
 
 -- ---- the answer of a run
 
--- r and the two working slices at exit: the number of members of the stage that ends the run, which stand in the first places of both, or one more than the room
+-- r and the two working slices at exit: the number of members of the stage that ends the run, which stand in the first places of both, or one more than the room.
+-- Both keep their length. Free are the words behind the members, and all words of both where a stage was too large: they may be any.
 pub record Settled (Q : List WordRule) (room r : ℕ) (a b : List ℕ) : Type 0 where
   pub count : r ≡ cond (crowded Q room) (room + 1) (length (finalStage Q))
   pub first : crowded Q room ≡ false → take r a ≡ finalStage Q
   pub second : crowded Q room ≡ false → take r b ≡ finalStage Q
   pub fits : crowded Q room ≡ false → r ≤ room
+  pub first-length : length a ≡ room
+  pub second-length : length b ≡ room
 
 -- the run has come to stage k, which stands in the first places of a
 pub record Settling (Q : List WordRule) (a : List ℕ) (members : ℕ) (b : List ℕ) (k : ℕ) : Type 0 where
