@@ -15,11 +15,11 @@ use lib.ListN.{length, take}
 use Rattle.sets.specs.Lists.{_∈_, Each, sift, upFrom, tabulate}
 use Rattle.sets.proofs.Lists.{map-in}
 use Rattle.program.specs.declared.Program.{Program}
-use Rattle.program.specs.Clauses.{Clause, clauseAt, rowsOf, rows, clauses}
+use Rattle.program.specs.Clauses.{Clause, Below, clauseAt, rowsOf, rows, clauses}
 use Rattle.program.specs.Valid.{valid, Sized}
 use Rattle.program.specs.Refusals.{lowest}
 use Rattle.program.proofs.Clauses.{length-rows}
-use Rattle.program.proofs.Validity.{Below, valid-names, valid-clauses, valid-below}
+use Rattle.program.proofs.Validity.{valid-names, valid-clauses, valid-below}
 use Rattle.rising.specs.RisingSets.{gather}
 use Rattle.rising.specs.Slices.{Kept}
 use Rattle.operator.specs.Operator.{WordRule, rulesFrom}

@@ -12,8 +12,7 @@ use Rattle.epistemic.proofs.WordMain.{program}
 use Rattle.epistemic.specs.Positive.{Rule}
 use Rattle.epistemic.specs.Transform.{Tagged, kappa}
 use Rattle.transform.specs.Listing.{literalPart, canonical, listing}
-use Rattle.program.proofs.Validity.{Below}
-use Rattle.program.specs.Clauses.{Clause}
+use Rattle.program.specs.Clauses.{Clause, Below}
 use Rattle.sets.proofs.Lists.{in-map, map-in, in-sift, out-sift}
 use Rattle.sets.specs.Lists.{_∈_, Each, sift, Rising, below}
 use Rattle.transform.proofs.Theory.{transformed, vocabularySize}
