@@ -1,5 +1,5 @@
 -- The run of the stages: where it ends, and whether the working room holds them. Assumes nothing.
-use Prim.Native.Nat.{ℕ, suc, _+_, _≤_, _<_}
+use Prim.Native.Nat.{ℕ, suc, _+_, _-_, _≤_, _<_}
 use lib.Dec.{ltb}
 use lib.ListN.{length, take}
 use mathlib.Core.Bool.{Bool, false, cond}
@@ -17,6 +17,16 @@ resting Q = least (λ k. same (stage Q k) (stage Q (suc k))) 65
 -- "The run ends at the first stage equal to the one before".
 unfoldable pub ending : List WordRule → ℕ
 ending Q = suc (resting Q)
+
+-- stage i equals the one before; stage 0 has none before it
+abbrev pub EqualsBefore : List WordRule → ℕ → Type 0
+EqualsBefore Q i = (1 ≤ i) × (stage Q i ≡ stage Q (i - 1))
+
+-- stage e ends the run over W members: "The run ends at the first stage equal to the one before; a stage equal to its successor is reached at stage W + 1 at the latest."
+pub record EndsRun (Q : List WordRule) (W e : ℕ) : Type 0 where
+  pub ends : EqualsBefore Q e
+  pub first : (i : ℕ) → i < e → EqualsBefore Q i → ⊥
+  pub latest : e - 1 ≤ W + 1
 
 -- the stage that ends the run
 unfoldable pub finalStage : List WordRule → List ℕ
