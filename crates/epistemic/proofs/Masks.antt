@@ -12,8 +12,7 @@ use Rattle.epistemic.proofs.WordMain.{WSame, program, Answer, theorem-w
 use Rattle.epistemic.proofs.Words.{mask-in, mask-out, meets→Any, Any→meets}
 use Rattle.epistemic.specs.Positive.{All, Any, None}
 use Rattle.epistemic.specs.Transform.{Tagged, Stable}
-use Rattle.program.proofs.Validity.{Below}
-use Rattle.program.specs.Clauses.{Clause}
+use Rattle.program.specs.Clauses.{Clause, Below}
 use Rattle.sets.proofs.Digits.{inside-bits, bits-ext, set-word, bit-ext, inside→⊑, ⊑→inside, bit-small}
 use Rattle.sets.proofs.Lists.{below-in, in-below, in-sift, out-sift}
 use Rattle.sets.proofs.Tests.{both-true, and-is-true, T?, T-ext}

@@ -69,6 +69,13 @@ Model→wmodel w (q ∷ Q) h = T-and (wsat w q) (wmodel w Q) (Sat→wsat w q (h 
 abbrev pub WSame : List (Rule ℕ) → ℕ → Type 0
 WSame Q j = (w : ℕ) → (w ∈ wstage Q j) ↔ (w ∈ wstage Q (suc j))
 
+-- where every head lies below W, the stages have come to rest at stage W + 1
+pub words-rest : (Q : List (Rule ℕ)) (W : ℕ) → Each (λ (r : Rule ℕ). Each (λ x. x < W) (r .head)) Q → (k : ℕ) → W < k → WSame Q k
+unfolding Same
+words-rest Q W small k h w =
+    let e : Same ℕ-discrete Q k (suc k) = stages-end ℕ-discrete Q (below W) (λ r i x j. below-in W x (small r i x j)) k (omega (arith, length-below W)) in
+    (λ i. in-wstage Q (suc k) w .1 (e (bit w) .0 (in-wstage Q k w .0 i)), λ i. in-wstage Q k w .1 (e (bit w) .1 (in-wstage Q (suc k) w .0 i)))
+
 pub record WMinimal (Q : List (Rule ℕ)) (j w : ℕ) : Type 0 where
   pub member : w ∈ wstage Q j
   pub model : T (wmodel w Q)
@@ -123,19 +130,18 @@ pub record Answer (m : ℕ) (P : List Tagged) (j I w : ℕ) : Type 0 where
   pub literals : w % 2 ^ m ≡ I
 
 module _ (m : ℕ) (P : List Tagged) (small : Each (Small m) P) where
+  -- its heads lie below the number of names
+  pub program-heads : Each (λ (r : Rule ℕ). Each (λ x. x < m + m + length (stands P)) (r .head)) (program m P)
+  unfolding program
+  program-heads r i x k =
+      let s = map-in (rename (name m (stands P))) r (kappa P) i in
+      let u = map-in (name m (stands P)) x (s .0 .head) (subst (λ (z : Rule ℕ). x ∈ z .head) (s .2) k) in
+      let g = good-names m P small (u .0) (kappa-vocabulary m P small (s .0) (s .1) (u .0) (inl (u .1))) in
+      subst (λ z. z < m + m + length (stands P)) (sym (u .2)) (name-lt m (stands P) (u .0) g)
+
   -- the stages have come to rest one round after as many rounds as there are names
   pub rest : (k : ℕ) → m + m + length (stands P) < k → WSame (program m P) k
-  unfolding Same program
-  rest k h w =
-      let e : Same ℕ-discrete (program m P) k (suc k) = stages-end ℕ-discrete (program m P) (below (m + m + length (stands P))) heads k (omega (arith, length-below (m + m + length (stands P)))) in
-      (λ i. in-wstage (program m P) (suc k) w .1 (e (bit w) .0 (in-wstage (program m P) k w .0 i)), λ i. in-wstage (program m P) k w .1 (e (bit w) .1 (in-wstage (program m P) (suc k) w .0 i)))
-    where
-      heads : (r : Rule ℕ) → r ∈ map (rename (name m (stands P))) (kappa P) → (x : ℕ) → x ∈ r .head → x ∈ below (m + m + length (stands P))
-      heads r i x k′ =
-          let s = map-in (rename (name m (stands P))) r (kappa P) i in
-          let u = map-in (name m (stands P)) x (s .0 .head) (subst (λ (z : Rule ℕ). x ∈ z .head) (s .2) k′) in
-          subst (λ z. z ∈ below (m + m + length (stands P))) (sym (u .2))
-          (below-in _ (name m (stands P) (u .0)) (name-lt m (stands P) (u .0) (good-names m P small (u .0) (kappa-vocabulary m P small (s .0) (s .1) (u .0) (inl (u .1))))))
+  rest k h = words-rest (program m P) (m + m + length (stands P)) program-heads k h
 
 module _ (m : ℕ) (P : List Tagged) (small : Each (Small m) P) (j : ℕ) (same : WSame (program m P) j) where
   Vo : List Atom

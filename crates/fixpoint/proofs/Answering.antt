@@ -15,11 +15,11 @@ use lib.ListN.{length, take}
 use Rattle.sets.specs.Lists.{_∈_, Each, sift, upFrom, tabulate}
 use Rattle.sets.proofs.Lists.{map-in}
 use Rattle.program.specs.declared.Program.{Program}
-use Rattle.program.specs.Clauses.{Clause, clauseAt, rowsOf, rows, clauses}
+use Rattle.program.specs.Clauses.{Clause, Below, clauseAt, rowsOf, rows, clauses}
 use Rattle.program.specs.Valid.{valid, Sized}
 use Rattle.program.specs.Refusals.{lowest}
 use Rattle.program.proofs.Clauses.{length-rows}
-use Rattle.program.proofs.Validity.{Below, valid-names, valid-clauses, valid-below}
+use Rattle.program.proofs.Validity.{valid-names, valid-clauses, valid-below}
 use Rattle.rising.specs.RisingSets.{gather}
 use Rattle.rising.specs.Slices.{Kept}
 use Rattle.operator.specs.Operator.{WordRule, rulesFrom}
@@ -63,18 +63,18 @@ small-parts m l out r h k x i = ⊎-elim
 
 -- ---- over a positive program
 module _ (m : ℕ) (Q : List WordRule) (room : ℕ) where
-  pub refused-crowded : (xs first : List ℕ) (n : ℕ) (r : FixpointAnswer) → Minimals Q room n first → room < n → r ≡ refused 12 → Answered m Q room xs xs r
+  pub refused-crowded : (xs first second : List ℕ) (n : ℕ) (r : FixpointAnswer) → Minimals Q room n first second → room < n → r ≡ refused 12 → Answered m Q room xs xs r
   unfolding runAnswer runExit
-  refused-crowded xs first n r d h e = go (crowded Q room) refl
+  refused-crowded xs first second n r d h e = go (crowded Q room) refl
     where
       go : (c : Bool) → crowded Q room ≡ c → Answered m Q room xs xs r
       go true c = record { answer = e ∙ rw c; exit = rw c }
       go false c = absurd (omega (arith, d .fits c))
 
-  pub answered : (xs first set out : List ℕ) (n k : ℕ) (r : FixpointAnswer) → Minimals Q room n first → n ≤ room
+  pub answered : (xs first second set out : List ℕ) (n k : ℕ) (r : FixpointAnswer) → Minimals Q room n first second → n ≤ room
       → Kept (gather (map (literalPart m) (sift (canonical m) (take n first)))) set k → out ≡ overwrite xs (take k set) → r ≡ listed k (length xs) → Answered m Q room xs out r
   unfolding runAnswer runExit listing
-  answered xs first set out n k r d h g e a = go (crowded Q room) refl
+  answered xs first second set out n k r d h g e a = go (crowded Q room) refl
     where
       go : (c : Bool) → crowded Q room ≡ c → Answered m Q room xs out r
       go true c = absurd (omega (arith, d .count ∙ ap (λ (x : Bool). cond x (room + 1) (length (minimalModels Q))) c))

@@ -101,10 +101,10 @@ module _ (m : ℕ) (l : List ℕ) (count : ℕ) (xs : List ℕ) where
           (part h ∙ ap (λ (x : Bool). cond x (getD l p 0 ∷ sift (canonical m) (drop (p + 1) (take count l))) (sift (canonical m) (drop (p + 1) (take count l)))) (sym e ∙ y)) (s .grows);
     }
 
-    pub collecting-keep : (b : Bool) (x r : ℕ) (out : List ℕ) → p < count → b ≡ canonical m (getD l p 0) → b ≡ true → x ≡ literalPart m (getD l p 0) → Put ys out (insertInto x (take n ys)) r → length out ≡ length ys
+    pub collecting-keep : (b : Bool) (x r : ℕ) (out : List ℕ) → p < count → b ≡ canonical m (getD l p 0) → b ≡ true → x ≡ literalPart m (getD l p 0) → Put ys out (insertInto x (take n ys)) r
         → Collecting m l count xs out r (p + 1)
     unfolding addAll
-    collecting-keep b x r out h e y v g k = record {
+    collecting-keep b x r out h e y v g = record {
       inside = s .inside;
       room = s .room;
       bits = s .bits;
@@ -113,7 +113,7 @@ module _ (m : ℕ) (l : List ℕ) (count : ℕ) (xs : List ℕ) where
           (map (literalPart m) (sift (canonical m) (drop (p + 1) (take count l)))) ys out n r (s .grows)
           (ap (map (literalPart m)) (part h ∙ ap (λ (z : Bool). cond z (getD l p 0 ∷ sift (canonical m) (drop (p + 1) (take count l))) (sift (canonical m) (drop (p + 1) (take count l)))) (sym e ∙ y))
           ∙ ap (λ (z : ℕ). z ∷ map (literalPart m) (sift (canonical m) (drop (p + 1) (take count l)))) (sym v))
-          (omega (arith, collecting-fits, s .grows .long)) (put-grown ys out (insertInto x (take n ys)) r g) k;
+          (omega (arith, collecting-fits, s .grows .long)) (put-grown ys out (insertInto x (take n ys)) r g);
     }
 
     pub collecting-done : count ≤ p → Kept (gather (map (literalPart m) (sift (canonical m) (take count l)))) ys n × (n ≤ count)

@@ -1,6 +1,7 @@
 -- What the fixpoint finds, and laws of its routines.
 pub mod Theorem
 pub mod Lists
+pub mod Ending
 pub mod Size
 pub mod Collecting
 pub mod Answering

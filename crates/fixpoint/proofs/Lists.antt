@@ -9,9 +9,9 @@ use Rattle.sets.specs.Lists.{_∈_, Each, Rising, sift, below}
 use Rattle.sets.proofs.Lists.{sift-in, sift-out, below-in, in-below}
 use Rattle.sets.proofs.Rising.{rising-ext, sift-rising, below-rising}
 use Rattle.program.specs.declared.Program.{Program}
-use Rattle.program.specs.Clauses.{Clause, clauses}
+use Rattle.program.specs.Clauses.{Clause, Below, clauses}
 use Rattle.program.specs.Valid.{valid}
-use Rattle.program.proofs.Validity.{Below, valid-names, valid-below}
+use Rattle.program.proofs.Validity.{valid-names, valid-below}
 use Rattle.semantics.specs.Interpretations.{isStable, models}
 use Rattle.stable.proofs.Decides.{StableWord, stable-word, word-stable}
 use Rattle.epistemic.proofs.Masks.{taggedFrom}

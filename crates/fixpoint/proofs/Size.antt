@@ -13,8 +13,7 @@ use Rattle.sets.specs.Lists.{Each, below}
 use Rattle.sets.specs.Words.{bit}
 use Rattle.sets.proofs.Tests.{T-and-l, T-and-r}
 use Rattle.sets.proofs.Lists.{length-below}
-use Rattle.program.specs.Clauses.{Clause}
-use Rattle.program.proofs.Validity.{Below}
+use Rattle.program.specs.Clauses.{Clause, Below}
 use Rattle.epistemic.proofs.Masks.{unmask}
 use Rattle.rising.specs.Literals.{literals}
 use Rattle.operator.specs.Operator.{WordRule}

@@ -6,14 +6,11 @@ use mathlib.Core.Logic.{inl, ⊎-elim}
 use mathlib.Core.Path.{sym, subst}
 use native.Mathlib.Nat.{mod-lt, lt-of-lt-of-le}
 use Rattle.epistemic.proofs.Masks.{taggedFrom, small-tagged, theorem}
-use Rattle.epistemic.proofs.Naming.{stands, name, kappa-vocabulary, good-names, name-lt}
-use Rattle.epistemic.proofs.Rename.{rename}
-use Rattle.epistemic.proofs.WordMain.{program}
+use Rattle.epistemic.proofs.WordMain.{program, program-heads}
 use Rattle.epistemic.specs.Positive.{Rule}
-use Rattle.epistemic.specs.Transform.{Tagged, kappa}
+use Rattle.epistemic.specs.Transform.{Tagged}
 use Rattle.transform.specs.Listing.{literalPart, canonical, listing}
-use Rattle.program.proofs.Validity.{Below}
-use Rattle.program.specs.Clauses.{Clause}
+use Rattle.program.specs.Clauses.{Clause, Below}
 use Rattle.sets.proofs.Lists.{in-map, map-in, in-sift, out-sift}
 use Rattle.sets.specs.Lists.{_∈_, Each, sift, Rising, below}
 use Rattle.transform.proofs.Theory.{transformed, vocabularySize}
@@ -30,13 +27,8 @@ module _ (m : ℕ) (C : List Clause) (below : Each (Below m) C) (fits : vocabula
   abbrev P : List Tagged
   P = taggedFrom m 0 C
 
-  heads : Each (λ (r : Rule ℕ). Each (λ x. x < 64) (r .head)) (program m (taggedFrom m 0 C))
-  unfolding program
-  heads r i x k =
-      let s = map-in (rename (name m (stands P))) r (kappa P) i in
-      let u = map-in (name m (stands P)) x (s .0 .head) (subst (λ (z : Rule ℕ). x ∈ z .head) (s .2) k) in
-      let g = good-names m P (small-tagged m 0 C) (u .0) (kappa-vocabulary m P (small-tagged m 0 C) (s .0) (s .1) (u .0) (inl (u .1))) in
-      subst (λ z. z < 64) (sym (u .2)) (lt-of-lt-of-le (name-lt m (stands P) (u .0) g) fits)
+  pub heads : Each (λ (r : Rule ℕ). Each (λ x. x < 64) (r .head)) (program m (taggedFrom m 0 C))
+  heads r i x k = lt-of-lt-of-le (program-heads m P (small-tagged m 0 C) r i x k) fits
 
   pub listing-rising : Rising (listing m (transformed m (taggedFrom m 0 C)))
   unfolding listing

@@ -9,7 +9,6 @@ use lib.Bits.{bitAnd, bitOr}
 use lib.Count.{ones}
 use lib.Dec.{T, eqb, ltb}
 use lib.ListN.{length, take}
-use lib.Seq.{length-take-le}
 use borrow.Author.Tests.{eqb-true, eq-eqb, ltb-true}
 use Rattle.sets.specs.Lists.{_∈_, Rising, anyOf, sift}
 use Rattle.sets.specs.Words.{bit, apart, meets, Highest}
@@ -19,9 +18,8 @@ use Rattle.sets.proofs.Digits.{bit-zero, bits-ext}
 use Rattle.rising.specs.Growing.{Grown}
 use Rattle.rising.specs.RisingSets.{insertInto, addAll}
 use Rattle.rising.specs.Slices.{Put}
-use Rattle.rising.proofs.Growing.{Growing, put-grown, grown-as, grow-start, grow-call, grow-done, grow-over}
+use Rattle.rising.proofs.Growing.{Growing, put-grown, grown-as, grown-held, grow-start, grow-call, grow-done, grow-over}
 use Rattle.rising.proofs.RisingSets.{addAll-same}
-use Rattle.rising.proofs.Slices.{size-fits}
 use Rattle.heads.specs.Heads.{picks, offeredBy, without, between}
 use Rattle.sets.proofs.Branches.{in-or, or-left, or-right, both-in, in-both, from-out, from-in, branches}
 use Rattle.heads.proofs.Tests.{is-between, between-is, between-one, one-between, in-without, without-in}
@@ -63,8 +61,7 @@ module _ (L xs : List ℕ) (held : ℕ) where
   pub grown-none : (p : ℕ → Bool) → held ≤ length xs → sift p L ≡ [] → Grown (length xs) (addAll (sift p L) (take held xs)) xs held
   unfolding addAll
   grown-none p h e = grown-as (length xs) (take held xs) (addAll (sift p L) (take held xs)) xs held
-      (ap (λ (l : List ℕ). addAll l (take held xs)) e)
-      (let l = length-take-le held xs h in record { count = sym (size-fits (length xs) (take held xs) (omega arith) ∙ l); words = λ k. refl })
+      (ap (λ (l : List ℕ). addAll l (take held xs)) e) (grown-held xs held h)
 
   module _ (w : ℕ) where
     pub one-not : (b : Bool) → held ≤ length xs → b ≡ anyOf (eqb w) L → b ≡ false → Grown (length xs) (addAll (sift (eqb w) L) (take held xs)) xs held
@@ -114,23 +111,23 @@ module _ (L xs : List ℕ) (held : ℕ) where
             (λ a. let s = out-sift (between (free - t) (bitOr w t)) L x a in in-sift (between free w) L x (s .0) (between-is free w x (from-in free t h w x (is-between (free - t) (bitOr w t) x (s .1)))))
             (in-++ x out-part in-part m))
 
-        module _ (ys : List ℕ) (m : ℕ) (g : Grown (length xs) (addAll (sift (between (free - t) w) L) (take held xs)) ys m) (long : length ys ≡ length xs) where
+        module _ (ys : List ℕ) (m : ℕ) (g : Grown (length xs) (addAll (sift (between (free - t) w) L) (take held xs)) ys m) where
           half : Growing (length xs) (addAll (out-part ++ in-part) (take held xs)) in-part ys m
           half = grow-call (length xs) (addAll (out-part ++ in-part) (take held xs)) out-part (out-part ++ in-part) in-part xs ys held m
-              (grow-start xs (out-part ++ in-part) held fits rise) refl fits g long
+              (grow-start xs (out-part ++ in-part) held fits rise) refl fits g
 
           pub scan-over : length ys < m → Grown (length xs) (addAll (sift (between free w) L) (take held xs)) ys m
           scan-over o = grown-as (length xs) (addAll (out-part ++ in-part) (take held xs)) (addAll (sift (between free w) L) (take held xs)) ys m halves
-              (grow-over (length xs) (addAll (out-part ++ in-part) (take held xs)) in-part ys m half (omega arith))
+              (grow-over (length xs) (addAll (out-part ++ in-part) (take held xs)) in-part ys m half (omega (arith, g .long)))
 
           pub scan-rises : m ≤ length ys → Rising (take m ys)
-          scan-rises o = half .rises (omega arith)
+          scan-rises o = half .rises (omega (arith, g .long))
 
-          pub scan-both : (out : List ℕ) (r : ℕ) → m ≤ length ys → Grown (length ys) (addAll (sift (between (free - t) (bitOr w t)) L) (take m ys)) out r → length out ≡ length ys
+          pub scan-both : (out : List ℕ) (r : ℕ) → m ≤ length ys → Grown (length ys) (addAll (sift (between (free - t) (bitOr w t)) L) (take m ys)) out r
               → Grown (length xs) (addAll (sift (between free w) L) (take held xs)) out r
-          scan-both out r o f l = grown-as (length xs) (addAll (out-part ++ in-part) (take held xs)) (addAll (sift (between free w) L) (take held xs)) out r halves
+          scan-both out r o f = grown-as (length xs) (addAll (out-part ++ in-part) (take held xs)) (addAll (sift (between free w) L) (take held xs)) out r halves
               (grow-done (length xs) (addAll (out-part ++ in-part) (take held xs)) [] out r
-              (grow-call (length xs) (addAll (out-part ++ in-part) (take held xs)) in-part in-part [] ys out m r half (sym (append-nil in-part)) (omega arith) f l) refl)
+              (grow-call (length xs) (addAll (out-part ++ in-part) (take held xs)) in-part in-part [] ys out m r half (sym (append-nil in-part)) (omega (arith, g .long)) f) refl)
 
 -- ---- all of them: they hold j and have no other literal but of the heads
 pub scan-all : (H xs : List ℕ) (held j u free : ℕ) (out : List ℕ) (r : ℕ) → Rising (take held xs) → u ≡ offeredBy H → free ≡ without u j

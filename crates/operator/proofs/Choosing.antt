@@ -134,9 +134,9 @@ module _ (hs bs : List ℕ) (count i k j : ℕ) (ws : List ℕ) (n : ℕ) (xs : 
     choice-less ne = low-lt rest (omega (arith, ne))
 
     pub choice-step : (t v r : ℕ) (out us : List ℕ) → (rest ≡ 0 → ⊥) → m ≤ length ys → t ≡ trailingZeros 64 rest → v ≡ put t j
-        → Chosen (length ys) (addAll (whole hs bs count i (k + 1) v (headsFrom vs n 0)) (take m ys)) out r n vs us → length out ≡ length ys → Choice hs bs count i k j ws n xs held us out r (low rest)
+        → Chosen (length ys) (addAll (whole hs bs count i (k + 1) v (headsFrom vs n 0)) (take m ys)) out r n vs us → Choice hs bs count i k j ws n xs held us out r (low rest)
     unfolding flatMap
-    choice-step t v r out us ne h e p g l =
+    choice-step t v r out us ne h e p g =
         let A : headsFrom vs n 0 ≡ headsFrom ws n 0 = heads-same ws n vs (c .same) in
         record {
           small = omega (arith, low-lt rest (omega (arith, ne)), c .small);
@@ -148,7 +148,7 @@ module _ (hs bs : List ℕ) (count i k j : ℕ) (ws : List ℕ) (n : ℕ) (xs : 
               (ap (flatMap (λ t. whole hs bs count i (k + 1) (put t j) (headsFrom ws n 0))) (literals-low rest ne (c .small))
               ∙ ap (λ (x : List ℕ). x ++ flatMap (λ t. whole hs bs count i (k + 1) (put t j) (headsFrom ws n 0)) (literals (low rest)))
               (ap (λ (u : ℕ). whole hs bs count i (k + 1) u (headsFrom ws n 0)) (ap (λ (u : ℕ). put u j) (sym e) ∙ sym p) ∙ ap (λ (H : List ℕ). whole hs bs count i (k + 1) v H) (sym A)))
-              (omega (arith, c .grows .long)) (g .grown) l;
+              (omega (arith, c .grows .long)) (g .grown);
         }
 
 pub ruleset choosing = (aside-room, at-end, passed, put-aside, choice-start, choice-over, choice-done, choice-visit, choice-long, choice-literal, choice-less, choice-step, not-true, not-false, needs)

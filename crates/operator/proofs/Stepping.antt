@@ -12,12 +12,11 @@ use native.Mathlib.Numerals.{add-one}
 use native.Mathlib.Omega.{arith}
 use Rattle.sets.specs.Lists.{Rising, anyOf}
 use Rattle.sets.specs.Words.{inside}
-use Rattle.rising.proofs.Growing.{Growing, grown-as, grow-start, grow-call, grow-done, grow-over}
+use Rattle.rising.proofs.Growing.{Growing, grown-as, grown-held, grow-start, grow-call, grow-done, grow-over}
 use Rattle.heads.specs.Heads.{headsFrom, picks}
 use Rattle.heads.proofs.Loops.{heads-none}
 use Rattle.operator.proofs.Operator.{rules-none, rules-one, choices-picks, barred-none, next-is}
 use Rattle.rising.proofs.RisingSets.{nothing-rises}
-use Rattle.rising.proofs.Slices.{size-fits}
 use Rattle.rising.specs.Growing.{Grown}
 use Rattle.operator.specs.Operator.{WordRule, rulesFrom, choices, fired, bars, barred, next, Chosen}
 use Rattle.rising.specs.RisingSets.{addAll}
@@ -60,7 +59,7 @@ module _ (hs bs : List ℕ) (count i : ℕ) (xs : List ℕ) (held : ℕ) where
   unfolding addAll
   gives-none b h e t = grown-as (length xs) (take held xs) (addAll (choices i (rulesFrom hs bs 0 count) i) (take held xs)) xs held
       (ap (λ (l : List ℕ). addAll l (take held xs)) (barred-none i (rulesFrom hs bs 0 count) (sym e ∙ t) i))
-      (let l = length-take-le held xs h in record { count = sym (size-fits (length xs) (take held xs) (omega arith) ∙ l); words = λ k. refl })
+      (grown-held xs held h)
 
   -- no head is set aside yet
   pub gives-all : (ws vs out : List ℕ) (r : ℕ) → Chosen (length xs) (addAll (picks (headsFrom ws 0 0 ++ fired i (rulesFrom hs bs 0 (count - 0))) i) (take held xs)) out r 0 ws vs
@@ -103,10 +102,10 @@ module _ (Q : List WordRule) (now : List ℕ) (members : ℕ) (xs : List ℕ) wh
     pub step-rises : n ≤ length ys → Rising (take n ys)
     step-rises h = s .grows .rises (omega (arith, s .grows .long))
 
-    pub step-next : (out : List ℕ) (r : ℕ) → p < members → n ≤ length ys → Grown (length ys) (addAll (choices (getD now p 0) Q (getD now p 0)) (take n ys)) out r → length out ≡ length ys
+    pub step-next : (out : List ℕ) (r : ℕ) → p < members → n ≤ length ys → Grown (length ys) (addAll (choices (getD now p 0) Q (getD now p 0)) (take n ys)) out r
         → Stepping Q now members xs out r (p + 1)
     unfolding flatMap
-    step-next out r h k g l =
+    step-next out r h k g =
         let len = length-take-le members now (s .inside) in
         record {
           inside = s .inside;
@@ -114,7 +113,7 @@ module _ (Q : List WordRule) (now : List ℕ) (members : ℕ) (xs : List ℕ) wh
           grows = grow-call (length xs) (next Q (take members now)) (choices (getD now p 0) Q (getD now p 0)) (flatMap (λ i. choices i Q i) (drop p (take members now)))
               (flatMap (λ i. choices i Q i) (drop (p + 1) (take members now))) ys out n r (s .grows)
               (ap (flatMap (λ i. choices i Q i)) (drop-cons (take members now) p 0 (omega arith) ∙ ap₂ (λ (x : ℕ) (m : ℕ). x ∷ drop m (take members now)) (getD-take members now p 0 h) (sym (add-one p))))
-              (omega (arith, s .grows .long)) g l;
+              (omega (arith, s .grows .long)) g;
         }
 
 pub ruleset stepping = (bars-is, passing-start, passing-hit, passing-miss, passing-done, gives-none, gives-all, nothing-rises, step-start, step-over, step-done, step-long, step-rises, step-next, needs)

@@ -50,7 +50,7 @@ barred i Q = anyOf (bars i) Q
 
 -- ---- an answer with heads set aside
 
--- the set has grown to `all`, and the first n words of ws are those of vs, which is as long
+-- the set has grown to `all`, and the first n words of ws are those of vs, which is as long; the words of ws behind them are free
 pub record Chosen (room : ℕ) (all out : List ℕ) (r n : ℕ) (vs ws : List ℕ) : Type 0 where
   pub grown : Grown room all out r
   pub same : (p : ℕ) → p < n → getD ws p 0 ≡ getD vs p 0

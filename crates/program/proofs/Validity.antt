@@ -2,7 +2,7 @@
 use mathlib.Core.Path.{_≡_}
 use mathlib.Core.Bool.{Bool, true, false, not, _&&_, and-false}
 use mathlib.Core.List.{List}
-use Prim.Native.Nat.{ℕ, _*_, _^_, _≤_, _<_}
+use Prim.Native.Nat.{ℕ, _*_, _≤_, _<_}
 use lib.Dec.{eqb, leb}
 use borrow.Author.Tests.{le-leb, lt-leb, leb-true, ltb-true}
 use Rattle.sets.specs.Lists.{Each, every, tabulate}
@@ -10,7 +10,7 @@ use Rattle.sets.proofs.Tests.{both-true}
 use Rattle.sets.proofs.Lists.{every-each}
 use Rattle.lists.specs.Bytes.{distinct}
 use Rattle.program.specs.declared.Program.{Program}
-use Rattle.program.specs.Clauses.{Clause, rowsOf, rows, clauses}
+use Rattle.program.specs.Clauses.{Clause, Below, rowsOf, rows, clauses}
 use Rattle.program.specs.Values.{isWord}
 use Rattle.program.specs.Names.{place}
 use Rattle.program.specs.Valid.{zeroFrom, isPlace, namesValid, isClause, clausesValid, valid}
@@ -88,12 +88,6 @@ module _ (p : Program) (v : valid p ≡ true) where
 
   pub valid-clauses : ClausesParts (p .heads) (p .bodies) (p .nafs) (p .«clause_count») (p .«atom_count»)
   valid-clauses = clauses-parts (p .heads) (p .bodies) (p .nafs) (p .«clause_count») (p .«atom_count») (halves .1)
-
--- a clause's words lie below 2 ^ m
-pub record Below (m : ℕ) (c : Clause) : Type 0 where
-  pub heads : c .head < 2 ^ m
-  pub bodies : c .body < 2 ^ m
-  pub nafs : c .naf < 2 ^ m
 
 pub clause-below : (n : ℕ) (c : Clause) → isClause n c ≡ true → Below (2 * n) c
 unfolding isClause isWord

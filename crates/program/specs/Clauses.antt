@@ -1,6 +1,6 @@
 -- The clauses of a table. Assumes nothing.
 use mathlib.Core.List.{List}
-use Prim.Native.Nat.{ℕ}
+use Prim.Native.Nat.{ℕ, _^_, _<_}
 use lib.ListN.{getD}
 use Rattle.sets.specs.Lists.{tabulate}
 use Rattle.program.specs.declared.Program.{Program}
@@ -16,6 +16,12 @@ clauseOf h b n = record { head = h; body = b; naf = n }
 
 abbrev pub clauseAt : List ℕ → List ℕ → List ℕ → ℕ → Clause
 clauseAt hs bs ns k = clauseOf (getD hs k 0) (getD bs k 0) (getD ns k 0)
+
+-- a clause over m literals: its words lie below 2 ^ m
+pub record Below (m : ℕ) (c : Clause) : Type 0 where
+  pub heads : c .head < 2 ^ m
+  pub bodies : c .body < 2 ^ m
+  pub nafs : c .naf < 2 ^ m
 
 -- the first count clauses of three columns
 unfoldable pub rowsOf : List ℕ → List ℕ → List ℕ → ℕ → List Clause

@@ -1,14 +1,14 @@
 -- A set that grows in the first places of a slice. Assumes nothing.
 use Prim.Native.Nat.{ℕ, _+_, _≤_, _<_}
 use lib.ListN.{length, take, drop}
-use lib.Seq.{take-at}
+use lib.Seq.{take-at, length-take-le}
 use mathlib.Core.List.{List, [], _++_}
 use mathlib.Core.Path.{_≡_, refl, sym, ap, ap₂, _∙_, subst}
 use native.Mathlib.Decide.{decLe}
 use native.Mathlib.Omega.{arith}
 use Rattle.sets.specs.Lists.{Rising}
 use Rattle.rising.proofs.RisingSets.{addAll-++, addAll-longer, addAll-rising}
-use Rattle.rising.proofs.Slices.{size-fits, size-over, overlay-fits}
+use Rattle.rising.proofs.Slices.{size-fits, size-over, overlay-fits, overlay-length}
 use Rattle.rising.specs.Growing.{Grown}
 use Rattle.rising.specs.RisingSets.{addAll}
 use Rattle.rising.specs.Slices.{size, Put}
@@ -47,7 +47,12 @@ put-grown xs out m r p = record {
   count = p .count;
   words = λ h. let q : r ≡ length m = p .count ∙ size-fits (length xs) m h in
       ap₂ (λ (k : ℕ) (l : List ℕ). take k l) q (p .exit ∙ overlay-fits xs m h) ∙ take-at m (drop (length m) xs) (length m) refl;
+  long = ap length (p .exit) ∙ overlay-length xs m;
 }
+
+-- nothing was to be put in
+pub grown-held : (xs : List ℕ) (held : ℕ) → held ≤ length xs → Grown (length xs) (take held xs) xs held
+grown-held xs held h = let l = length-take-le held xs h in record { count = sym (size-fits (length xs) (take held xs) (omega arith) ∙ l); words = λ k. refl; long = refl }
 
 -- another name for the same set
 pub grown-as : (room : ℕ) (all all′ out : List ℕ) (r : ℕ) → all′ ≡ all → Grown room all out r → Grown room all′ out r
@@ -58,13 +63,13 @@ grow-start xs left n h r = record { long = refl; most = omega arith; rises = λ 
 
 -- some of what is left is put in by a callee
 pub grow-call : (room : ℕ) (all new left rest out out′ : List ℕ) (n r : ℕ) → Growing room all left out n → left ≡ new ++ rest → n ≤ room
-    → Grown (length out) (addAll new (take n out)) out′ r → length out′ ≡ length out → Growing room all rest out′ r
-grow-call room all new left rest out out′ n r g e h c l =
+    → Grown (length out) (addAll new (take n out)) out′ r → Growing room all rest out′ r
+grow-call room all new left rest out out′ n r g e h c =
     let q : length out ≡ room = g .long in
     let count : r ≡ size room (addAll new (take n out)) = c .count ∙ ap (λ (k : ℕ). size k (addAll new (take n out))) q in
     let whole : addAll rest (addAll new (take n out)) ≡ all = sym (addAll-++ new rest (take n out)) ∙ ap (λ (x : List ℕ). addAll x (take n out)) (sym e) ∙ g .whole h in
     record {
-      long = l ∙ q;
+      long = c .long ∙ q;
       most = omega (arith, size≤ room (addAll new (take n out)));
       rises = λ k. let f : length (addAll new (take n out)) ≤ room = size-small room (addAll new (take n out)) (omega arith) in
           subst Rising (sym (c .words (omega arith))) (addAll-rising new (take n out) (g .rises h));
@@ -82,14 +87,14 @@ grow-done room all left out n g e = go (decLe n room)
     go : Dec (n ≤ room) → Grown room all out n
     go (yes h) =
         let w : take n out ≡ all = ap (λ (x : List ℕ). addAll x (take n out)) (sym e) ∙ g .whole h in
-        let l : length all ≡ n = ap length (sym w) ∙ lib.Seq.length-take-le n out (omega (arith, g .long)) in
-        record { count = sym (size-fits room all (omega arith) ∙ l); words = λ k. w }
+        let l : length all ≡ n = ap length (sym w) ∙ length-take-le n out (omega (arith, g .long)) in
+        record { count = sym (size-fits room all (omega arith) ∙ l); words = λ k. w; long = g .long }
     go (no f) =
         let o : room < length all = g .over (omega (arith, f)) in
-        record { count = omega (arith, g .most, f, size-over room all o); words = λ k. absurd (omega arith) }
+        record { count = omega (arith, g .most, f, size-over room all o); words = λ k. absurd (omega arith); long = g .long }
 
 -- one member too many was found
 pub grow-over : (room : ℕ) (all left out : List ℕ) (n : ℕ) → Growing room all left out n → room < n → Grown room all out n
 grow-over room all left out n g h =
     let o : room < length all = g .over h in
-    record { count = omega (arith, g .most, size-over room all o); words = λ k. absurd (omega arith) }
+    record { count = omega (arith, g .most, size-over room all o); words = λ k. absurd (omega arith); long = g .long }

@@ -7,7 +7,7 @@ use lib.Seq.{take-suc, drop-cons, set-at, length-take-le, take-take, getD-take, 
 use mathlib.Core.Bool.{Bool, true, false}
 use mathlib.Core.List.{List, [], _∷_, _++_, append-assoc}
 use mathlib.Core.Path.{_≡_, sym, ap, ap₂, _∙_}
-use native.Mathlib.Decide.{decLt}
+use native.Mathlib.Decide.{decLe, decLt}
 use native.Mathlib.Numerals.{add-one}
 use native.Mathlib.Omega.{arith}
 use Rattle.sets.specs.Lists.{Rising}
@@ -67,6 +67,13 @@ overlay-fits xs m h = rw (le-leb (length m) (length xs) h)
 pub overlay-over : (xs m : List ℕ) → length xs < length m → overlay xs m ≡ xs
 unfolding overlay
 overlay-over xs m h = rw (lt-leb (length m) (length xs) h)
+
+pub overlay-length : (xs m : List ℕ) → length (overlay xs m) ≡ length xs
+overlay-length xs m = go (decLe (length m) (length xs))
+  where
+    go : Dec (length m ≤ length xs) → length (overlay xs m) ≡ length xs
+    go (yes h) = ap length (overlay-fits xs m h) ∙ simp (length-append, length-drop) (omega arith)
+    go (no n) = ap length (overlay-over xs m (omega (arith, n)))
 
 pub size-fits : (room : ℕ) (m : List ℕ) → length m ≤ room → size room m ≡ length m
 unfolding size

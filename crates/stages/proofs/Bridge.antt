@@ -4,18 +4,16 @@ use mathlib.Core.Bool.{Bool, true, false, cond}
 use mathlib.Core.List.{List, [], _∷_, map, flatMap}
 use mathlib.Core.Logic.{inl, ⊎-elim}
 use mathlib.Core.Path.{_≡_, refl, sym, ap, ap₂, _∙_, subst}
-use native.Mathlib.Decide.{ℕ-discrete}
 use native.Mathlib.Nat.{pow-suc}
 use native.Mathlib.Omega.{arith}
 use Rattle.epistemic.proofs.Masks.{unmask, mask-unmask}
-use Rattle.epistemic.proofs.Stages.{stages-end}
-use Rattle.epistemic.proofs.Words.{wchoices, wstage, in-wstage, map-flatMap, map-map, map-cond}
-use Rattle.epistemic.specs.Positive.{Rule, Same}
-use Rattle.lists.specs.Bytes.{same}
-use Rattle.sets.proofs.Lists.{in-flatMap, flatMap-in, map-in, below-in, length-below}
+use Rattle.epistemic.proofs.WordMain.{WSame, words-rest}
+use Rattle.epistemic.proofs.Words.{wchoices, wstage, map-flatMap, map-map, map-cond}
+use Rattle.epistemic.specs.Positive.{Rule}
+use Rattle.sets.proofs.Lists.{in-flatMap, flatMap-in, map-in}
 use Rattle.sets.proofs.Rising.{rising-ext}
-use Rattle.sets.specs.Lists.{_∈_, below, Rising}
-use Rattle.sets.specs.Words.{bit, inside, put, mask}
+use Rattle.sets.specs.Lists.{_∈_, Each, Rising}
+use Rattle.sets.specs.Words.{inside, put, mask}
 use Rattle.rising.proofs.Literals.{lit-out, put-put}
 use Rattle.rising.proofs.RisingSets.{in-addAll, addAll-in, addAll-rising}
 use Rattle.rising.specs.Literals.{literals}
@@ -112,7 +110,13 @@ module _ (Q : List WordRule) (R : List (Rule ℕ)) (a : Alike Q R) where
       next-in Q (stage Q k) v (in-flatMap (λ i. choices i Q i) (s .0) v (stage Q k) (stage-of k (s .0) (s .1))
       (choices-of (s .0) Q R a (s .0) v (subst (λ (l : List ℕ). v ∈ l) (sym (wfrom-is (s .0) R)) (s .2))))
 
--- ---- from stage 65 on nothing changes, whatever the clauses
+  -- two stages with the same words are equal
+  pub stage-same : (k : ℕ) → WSame R k → stage Q k ≡ stage Q (suc k)
+  stage-same k h = rising-ext (stage Q k) (stage Q (suc k)) (stage-rising Q k) (stage-rising Q (suc k))
+      (λ v m. stage-of (suc k) v (h v .0 (stage-to k v m)))
+      (λ v m. stage-of k v (h v .1 (stage-to (suc k) v m)))
+
+-- ---- stage 65 equals its successor, whatever the clauses: heads of words lie below 64
 
 below-pow : (n : ℕ) → n < 2 ^ n
 below-pow zero = omega arith
@@ -126,18 +130,9 @@ unfolding ruleOf
 alike-rules [] = tt
 alike-rules (c ∷ Q) = (record { heads-to = λ x m. m; heads-of = λ x m. m; body = sym (mask-unmask (c .body) (c .body) (below-pow (c .body))) }, alike-rules Q)
 
-heads-below : (Q : List WordRule) (r : Rule ℕ) → r ∈ map ruleOf Q → (x : ℕ) → x ∈ r .head → x ∈ below 64
+heads-below : (Q : List WordRule) → Each (λ (r : Rule ℕ). Each (λ x. x < 64) (r .head)) (map ruleOf Q)
 unfolding ruleOf
-heads-below Q r m x i = let s = map-in ruleOf r Q m in below-in 64 x (lit-out (s .0 .head) x (subst (λ (z : Rule ℕ). x ∈ z .head) (s .2) i) .0)
+heads-below Q r m x i = let s = map-in ruleOf r Q m in lit-out (s .0 .head) x (subst (λ (z : Rule ℕ). x ∈ z .head) (s .2) i) .0
 
 pub stage-rests : (Q : List WordRule) → stage Q 65 ≡ stage Q 66
-unfolding Same
-stage-rests Q = rising-ext (stage Q 65) (stage Q 66) (stage-rising Q 65) (stage-rising Q 66)
-    (λ v m. stage-of Q R (alike-rules Q) 66 v (in-wstage R 66 v .1 (same (bit v) .0 (in-wstage R 65 v .0 (stage-to Q R (alike-rules Q) 65 v m)))))
-    (λ v m. stage-of Q R (alike-rules Q) 65 v (in-wstage R 65 v .1 (same (bit v) .1 (in-wstage R 66 v .0 (stage-to Q R (alike-rules Q) 66 v m)))))
-  where
-    R : List (Rule ℕ)
-    R = map ruleOf Q
-
-    same : Same ℕ-discrete (map ruleOf Q) 65 66
-    same = stages-end ℕ-discrete (map ruleOf Q) (below 64) (heads-below Q) 65 (omega (arith, length-below 64))
+stage-rests Q = stage-same Q (map ruleOf Q) (alike-rules Q) 65 (words-rest (map ruleOf Q) 64 (heads-below Q) 65 (omega arith))

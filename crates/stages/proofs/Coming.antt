@@ -82,15 +82,15 @@ module _ (Q : List WordRule) (a : List ℕ) (members : ℕ) (b : List ℕ) (k : 
   count : n ≡ size (length a) (stage Q (suc k))
   count = g .count ∙ ap₂ size (s .long) follows
 
-  fewer : n ≤ length out → length out ≡ length b → (length (stage Q (suc k)) ≤ length a) × (take n out ≡ stage Q (suc k)) × (n ≡ length (stage Q (suc k)))
-  fewer h l =
-      let e : length out ≡ length a = l ∙ s .long in
+  fewer : n ≤ length out → (length (stage Q (suc k)) ≤ length a) × (take n out ≡ stage Q (suc k)) × (n ≡ length (stage Q (suc k)))
+  fewer h =
+      let e : length out ≡ length a = g .long ∙ s .long in
       let f : length (stage Q (suc k)) ≤ length a = size-small (length a) (stage Q (suc k)) (omega (arith, count)) in
       (f, g .words (omega (arith, ap length follows, s .long)) ∙ follows, count ∙ size-fits (length a) (stage Q (suc k)) f)
 
-  pub settle-over : length out < n → length out ≡ length b → Settled Q (length a) n a out
-  settle-over h l =
-      let f : length a < length (stage Q (suc k)) = size-large (length a) (stage Q (suc k)) (omega (arith, count, s .long)) in
+  pub settle-over : length out < n → Settled Q (length a) n a out
+  settle-over h =
+      let f : length a < length (stage Q (suc k)) = size-large (length a) (stage Q (suc k)) (omega (arith, count, s .long, g .long)) in
       let c = crowds Q (length a) k (s .reached) f in
       let no : crowded Q (length a) ≡ false → ⊥ = λ e. (let z : _≡_ {A = ℕ} 0 1 = cc in omega arith) in
       record {
@@ -98,11 +98,13 @@ module _ (Q : List WordRule) (a : List ℕ) (members : ℕ) (b : List ℕ) (k : 
         first = λ e. absurd (no e);
         second = λ e. absurd (no e);
         fits = λ e. absurd (no e);
+        first-length = refl;
+        second-length = g .long ∙ s .long;
       }
 
-  pub settle-rest : (t : Bool) → n ≤ length out → length out ≡ length b → t ≡ same (take members a) (take n out) → t ≡ true → Settled Q (length a) n a out
-  settle-rest t h l e y =
-      let f = fewer h l in
+  pub settle-rest : (t : Bool) → n ≤ length out → t ≡ same (take members a) (take n out) → t ≡ true → Settled Q (length a) n a out
+  settle-rest t h e y =
+      let f = fewer h in
       let same : same (stage Q k) (stage Q (suc k)) ≡ true = ap₂ same (sym (s .is)) (sym (f .1)) ∙ sym e ∙ y in
       let fin : finalStage Q ≡ stage Q (suc k) = final-is Q (length a) k (s .reached) same in
       let eq : take members a ≡ take n out = same-eq (take members a) (take n out) (subst T (sym (sym e ∙ y)) tt) in
@@ -112,25 +114,28 @@ module _ (Q : List WordRule) (a : List ℕ) (members : ℕ) (b : List ℕ) (k : 
         first = λ c. ap (λ (i : ℕ). take i a) (sym m) ∙ eq ∙ f .1 ∙ sym fin;
         second = λ c. f .1 ∙ sym fin;
         fits = λ c. omega (arith, f .2, f .0);
+        first-length = refl;
+        second-length = g .long ∙ s .long;
       }
 
-  pub settle-on : (t : Bool) → n ≤ length out → length out ≡ length b → t ≡ same (take members a) (take n out) → t ≡ false → Settling Q out n a (k + 1)
-  settle-on t h l e y =
-      let f = fewer h l in
+  pub settle-on : (t : Bool) → n ≤ length out → t ≡ same (take members a) (take n out) → t ≡ false → Settling Q out n a (k + 1)
+  settle-on t h e y =
+      let f = fewer h in
       let same : same (stage Q k) (stage Q (suc k)) ≡ false = ap₂ same (sym (s .is)) (sym (f .1)) ∙ sym e ∙ y in
       record {
         inside = h;
-        long = sym (l ∙ s .long);
+        long = sym (g .long ∙ s .long);
         is = f .1 ∙ ap (stage Q) (sym (add-one k));
-        reached = subst (λ (r : ℕ). Reached Q r (k + 1)) (sym (l ∙ s .long)) (reached-next Q (length a) k (s .reached) same (f .0));
+        reached = subst (λ (r : ℕ). Reached Q r (k + 1)) (sym (g .long ∙ s .long)) (reached-next Q (length a) k (s .reached) same (f .0));
       }
 
-  pub settle-less : (t : Bool) → n ≤ length out → length out ≡ length b → t ≡ same (take members a) (take n out) → t ≡ false → k < 65
-  settle-less t h l e y =
-      let f = fewer h l in
+  pub settle-less : (t : Bool) → n ≤ length out → t ≡ same (take members a) (take n out) → t ≡ false → k < 65
+  settle-less t h e y =
+      let f = fewer h in
       reached-less Q (length a) k (s .reached) (ap₂ same (sym (s .is)) (sym (f .1)) ∙ sym e ∙ y)
 
-  pub settle-back : (r : ℕ) (p q : List ℕ) → length out ≡ length b → Settled Q (length out) r p q → Settled Q (length a) r q p
-  settle-back r p q l d = subst (λ (m : ℕ). Settled Q m r q p) (l ∙ s .long) (record { count = d .count; first = d .second; second = d .first; fits = d .fits })
+  pub settle-back : (r : ℕ) (p q : List ℕ) → Settled Q (length out) r p q → Settled Q (length a) r q p
+  settle-back r p q d = subst (λ (m : ℕ). Settled Q m r q p) (g .long ∙ s .long)
+      (record { count = d .count; first = d .second; second = d .first; fits = d .fits; first-length = d .second-length; second-length = d .first-length })
 
 pub ruleset settling = (equal-not, equal-start, equal-step, equal-differ, equal-done, settle-over, settle-rest, settle-on, settle-less, settle-back, needs)

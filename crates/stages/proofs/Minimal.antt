@@ -7,24 +7,20 @@ use mathlib.Core.Bool.{Bool, true, false, not, cond, _&&_, _||_}
 use mathlib.Core.List.{List, [], _∷_, map}
 use mathlib.Core.Logic.{_⊎_, inl, inr}
 use mathlib.Core.Path.{_≡_, refl, sym, ap, subst}
-use native.Mathlib.Decide.{decLt}
 use native.Mathlib.Omega.{arith}
 use Rattle.epistemic.proofs.WordMain.{WSame, WMinimal, wsat, wmodel}
 use Rattle.epistemic.proofs.Words.{mask-in, mask-out, wstage}
 use Rattle.epistemic.specs.Positive.{Rule}
-use Rattle.lists.specs.Bytes.{same}
 use Rattle.sets.proofs.Lists.{in-sift, out-sift}
 use Rattle.sets.proofs.Tests.{T-and-l, T?, T-and, T-and-r}
-use Rattle.sets.specs.Least.{least}
 use Rattle.sets.specs.Lists.{_∈_, Some, sift, anyOf, Each}
 use Rattle.sets.specs.Words.{inside, mask}
-use Rattle.sets.proofs.Least.{least-hit, least-le}
-use Rattle.stages.proofs.Bridge.{Alike, stage-to, stage-of, stage-rests}
+use Rattle.stages.proofs.Bridge.{Alike, stage-to, stage-of}
 use Rattle.rising.proofs.Literals.{lit-in, lit-out}
-use Rattle.stages.proofs.Run.{same-eq}
+use Rattle.stages.proofs.Run.{rests-at}
 use Rattle.stages.specs.Minimal.{violates, satisfies, properIn, leastIn, minimals}
 use Rattle.operator.specs.Operator.{WordRule, next, stage}
-use Rattle.stages.specs.Run.{finalStage, resting, ending}
+use Rattle.stages.specs.Run.{finalStage, ending}
 
 -- ---- laws
 
@@ -122,14 +118,8 @@ satisfies-model w (r ∷ R) = go (inside (mask (r .body)) w) (eqb (bitAnd (mask 
 -- ---- the stage that ends the run is at rest
 
 pub final-rests : (Q : List WordRule) → stage Q (ending Q) ≡ stage Q (suc (ending Q))
-unfolding ending resting stage
-final-rests Q = ap (next Q) (go (decLt (least (λ k. same (stage Q k) (stage Q (suc k))) 65) 65))
-  where
-    go : Dec (least (λ k. same (stage Q k) (stage Q (suc k))) 65 < 65)
-        → stage Q (least (λ k. same (stage Q k) (stage Q (suc k))) 65) ≡ stage Q (suc (least (λ k. same (stage Q k) (stage Q (suc k))) 65))
-    go (yes h) = same-eq _ _ (subst T (sym (least-hit (λ k. same (stage Q k) (stage Q (suc k))) 65 h)) tt)
-    go (no h) = let e : 65 ≡ least (λ k. same (stage Q k) (stage Q (suc k))) 65 = omega (arith, h, least-le (λ k. same (stage Q k) (stage Q (suc k))) 65) in
-        subst (λ (n : ℕ). stage Q n ≡ stage Q (suc n)) e (stage-rests Q)
+unfolding ending stage
+final-rests Q = ap (next Q) (rests-at Q)
 
 -- ---- minimal members
 

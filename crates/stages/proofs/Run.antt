@@ -1,5 +1,5 @@
 -- The run of the stages: where it ends, and whether the working room holds them. Assumes nothing.
-use Prim.Native.Nat.{ℕ, suc, _+_, _≤_, _<_}
+use Prim.Native.Nat.{ℕ, suc, _+_, _-_, _≤_, _<_}
 use borrow.Author.Tests.{lt-ltb, le-ltb}
 use lib.Dec.{T, ltb}
 use lib.ListN.{length}
@@ -10,14 +10,14 @@ use native.Mathlib.Decide.{decLe, decLt}
 use native.Mathlib.Omega.{arith}
 use Rattle.sets.specs.Lists.{anyOf, below}
 use Rattle.sets.specs.Least.{least}
-use Rattle.sets.proofs.Tests.{T-true}
+use Rattle.sets.proofs.Tests.{T-true, clash}
 use Rattle.sets.proofs.Lists.{below-in, in-below, in-some, some-none}
-use Rattle.sets.proofs.Least.{least-is, least-none, least-late}
+use Rattle.sets.proofs.Least.{least-hit, least-is, least-late, least-le, least-miss, least-none}
 use Rattle.lists.specs.Bytes.{same}
 use Rattle.lists.proofs.Loops.{same-self, same-true}
 use Rattle.stages.proofs.Bridge.{stage-rests}
 use Rattle.operator.specs.Operator.{WordRule, stage}
-use Rattle.stages.specs.Run.{resting, ending, finalStage, crowded, Reached}
+use Rattle.stages.specs.Run.{resting, ending, EndsRun, finalStage, crowded, Reached}
 
 pub same-eq : (a b : List ℕ) → T (same a b) → a ≡ b
 same-eq a b t = same-true a b (T-true (same a b) t)
@@ -27,6 +27,40 @@ some-hit p n i h t = in-some p (below (suc n)) i (below-in (suc n) i (omega arit
 
 some-miss : (p : ℕ → Bool) (n : ℕ) → ((i : ℕ) → i ≤ n → p i ≡ false) → anyOf p (below (suc n)) ≡ false
 some-miss p n f = some-none p (below (suc n)) (λ i m. f i (let h = in-below (suc n) i m in omega arith))
+
+-- ---- the stage that ends the run
+module _ (Q : List WordRule) where
+  abbrev still : ℕ → Bool
+  still k = same (stage Q k) (stage Q (suc k))
+
+  pub rests-at : stage Q (resting Q) ≡ stage Q (suc (resting Q))
+  unfolding resting
+  rests-at = go (decLt (least still 65) 65)
+    where
+      go : Dec (least still 65 < 65) → stage Q (least still 65) ≡ stage Q (suc (least still 65))
+      go (yes h) = same-true _ _ (least-hit still 65 h)
+      go (no h) = let e : 65 ≡ least still 65 = omega (arith, h, least-le still 65) in subst (λ (n : ℕ). stage Q n ≡ stage Q (suc n)) e (stage-rests Q)
+
+  -- no earlier stage equals its successor
+  moves-before : (k : ℕ) → k < resting Q → stage Q k ≡ stage Q (suc k) → ⊥
+  unfolding resting
+  moves-before k h e = clash (still k) (ap (same (stage Q k)) (sym e) ∙ same-self (stage Q k)) (least-miss still 65 k h)
+
+  -- a stage that equals its successor is not before it
+  rests-by : (k : ℕ) → stage Q k ≡ stage Q (suc k) → resting Q ≤ k
+  rests-by k e = go (decLt k (resting Q))
+    where
+      go : Dec (k < resting Q) → resting Q ≤ k
+      go (yes h) = absurd (moves-before k h e)
+      go (no h) = omega (arith, h)
+
+  pub run-ends : (W : ℕ) → stage Q (W + 1) ≡ stage Q (suc (W + 1)) → EndsRun Q W (ending Q)
+  unfolding ending
+  run-ends W e = record {
+    ends = (omega arith, ap (stage Q) (omega arith) ∙ sym rests-at ∙ ap (stage Q) (omega arith));
+    first = λ i h b. moves-before (i - 1) (omega arith) (sym (b .1) ∙ ap (stage Q) (omega (arith, b .0)));
+    latest = let h = rests-by (W + 1) e in omega arith;
+  }
 
 -- ---- a run that has come to stage k
 pub reached-start : (Q : List WordRule) (room : ℕ) → 0 < room → Reached Q room 0

@@ -114,23 +114,29 @@ least-in-is l w e = ap not e
 
 -- ---- the minimal models of the stage that ends the run
 module _ (Q : List WordRule) (room : ℕ) where
-  -- no room for stage 0
-  pub minimals-empty : (a : List ℕ) → room ≡ 0 → Minimals Q room 1 a
-  minimals-empty a h = let c = crowded-start Q room h in record { count = rw c (omega arith); words = λ f. clash (crowded Q room) c f; fits = λ f. clash (crowded Q room) c f }
+  -- some stage was too large
+  too-large : (a b : List ℕ) (r : ℕ) → crowded Q room ≡ true → r ≡ room + 1 → length a ≡ room → length b ≡ room → Minimals Q room r a b
+  too-large a b r c e l k = record {
+    count = e ∙ rw c;
+    words = λ f. clash (crowded Q room) c f;
+    fits = λ f. clash (crowded Q room) c f;
+    first-length = l;
+    second-length = k;
+  }
 
-  pub minimals-over : (a b out : List ℕ) (r : ℕ) → Settled Q room r a b → room < r → Minimals Q room r out
-  minimals-over a b out r s h = go (crowded Q room) refl
+  pub minimals-over : (a b : List ℕ) (r : ℕ) → Settled Q room r a b → room < r → Minimals Q room r a b
+  minimals-over a b r s h = go (crowded Q room) refl
     where
-      go : (c : Bool) → crowded Q room ≡ c → Minimals Q room r out
-      go true c = record { count = s .count ∙ rw c; words = λ f. clash (crowded Q room) c f; fits = λ f. clash (crowded Q room) c f }
+      go : (c : Bool) → crowded Q room ≡ c → Minimals Q room r a b
+      go true c = too-large a b r c (s .count ∙ rw c) (s .first-length) (s .second-length)
       go false c = absurd (omega (arith, s .fits c))
 
   pub minimals-are : (a b kept out : List ℕ) (r k n : ℕ) → Settled Q room r a b → r ≤ room
-      → Sifted (sift (satisfies Q) (take r a)) r kept k → Sifted (sift (leastIn (take k kept)) (take k kept)) k out n → Minimals Q room n out
+      → Sifted (sift (satisfies Q) (take r a)) r kept k → length kept ≡ length b → Sifted (sift (leastIn (take k kept)) (take k kept)) k out n → length out ≡ length a → Minimals Q room n out kept
   unfolding minimalModels minimals
-  minimals-are a b kept out r k n s h p q = go (crowded Q room) refl
+  minimals-are a b kept out r k n s h p l q m = go (crowded Q room) refl
     where
-      go : (c : Bool) → crowded Q room ≡ c → Minimals Q room n out
+      go : (c : Bool) → crowded Q room ≡ c → Minimals Q room n out kept
       go true c = absurd (omega (arith, s .count ∙ ap (λ (x : Bool). cond x (room + 1) (length (finalStage Q))) c))
       go false c =
           let f : take k kept ≡ sift (satisfies Q) (finalStage Q) = p .words ∙ ap (sift (satisfies Q)) (s .first c) in
@@ -139,10 +145,16 @@ module _ (Q : List WordRule) (room : ℕ) where
             count = q .count ∙ ap (λ (l : List ℕ). length (sift (leastIn l) l)) f ∙ sym (ap (λ (x : Bool). cond x (room + 1) (length (minimalModels Q))) c);
             words = λ e. g;
             fits = λ e. omega (arith, q .few, p .few);
+            first-length = m ∙ s .first-length;
+            second-length = l ∙ s .second-length;
           }
 
-pub minimals-as : (Q : List WordRule) (a out : List ℕ) (r : ℕ) → Minimals Q (length (set a 0 0)) r out → Minimals Q (length a) r out
-minimals-as Q a out r m = subst (λ (n : ℕ). Minimals Q n r out) (length-set a 0 0) m
+-- no room for stage 0
+pub minimals-empty : (Q : List WordRule) (a b : List ℕ) → length b ≡ length a → length a ≡ 0 → Minimals Q (length a) 1 a b
+minimals-empty Q a b l h = too-large Q (length a) a b 1 (crowded-start Q (length a) h) (omega arith) refl l
+
+pub minimals-as : (Q : List WordRule) (a out other : List ℕ) (r : ℕ) → Minimals Q (length (set a 0 0)) r out other → Minimals Q (length a) r out other
+minimals-as Q a out other r m = subst (λ (n : ℕ). Minimals Q n r out other) (length-set a 0 0) m
 
 -- stage 0 stands in the first place
 pub begins : (Q : List WordRule) (a b : List ℕ) → (length a ≡ 0 → ⊥) → length b ≡ length a → Settling Q (set a 0 0) 1 b 0

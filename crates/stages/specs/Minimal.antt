@@ -35,8 +35,11 @@ minimals l = sift (leastIn l) l
 unfoldable pub minimalModels : List WordRule → List ℕ
 minimalModels Q = minimals (sift (satisfies Q) (finalStage Q))
 
--- the minimal models, rising, at the start of a working slice: their number, or one more than the room where some stage has more members than that
-pub record Minimals (Q : List WordRule) (room r : ℕ) (out : List ℕ) : Type 0 where
+-- r and the two working slices at exit: the number of minimal models, which stand, rising, at the start of the first, or one more than the room where some stage has more members than that.
+-- Both keep their length. Free are the words behind the minimal models in the first, all words of the second, and all words of both where a stage was too large: they may be any.
+pub record Minimals (Q : List WordRule) (room r : ℕ) (first second : List ℕ) : Type 0 where
   pub count : r ≡ cond (crowded Q room) (room + 1) (length (minimalModels Q))
-  pub words : crowded Q room ≡ false → take r out ≡ minimalModels Q
+  pub words : crowded Q room ≡ false → take r first ≡ minimalModels Q
   pub fits : crowded Q room ≡ false → r ≤ room
+  pub first-length : length first ≡ room
+  pub second-length : length second ≡ room

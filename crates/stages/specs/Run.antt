@@ -1,5 +1,5 @@
 -- The run of the stages: where it ends, and whether the working room holds them. Assumes nothing.
-use Prim.Native.Nat.{ℕ, suc, _+_, _≤_, _<_}
+use Prim.Native.Nat.{ℕ, suc, _+_, _-_, _≤_, _<_}
 use lib.Dec.{ltb}
 use lib.ListN.{length, take}
 use mathlib.Core.Bool.{Bool, false, cond}
@@ -18,6 +18,16 @@ resting Q = least (λ k. same (stage Q k) (stage Q (suc k))) 65
 unfoldable pub ending : List WordRule → ℕ
 ending Q = suc (resting Q)
 
+-- stage i equals the one before; stage 0 has none before it
+abbrev pub EqualsBefore : List WordRule → ℕ → Type 0
+EqualsBefore Q i = (1 ≤ i) × (stage Q i ≡ stage Q (i - 1))
+
+-- stage e ends the run over W members: "The run ends at the first stage equal to the one before; a stage equal to its successor is reached at stage W + 1 at the latest."
+pub record EndsRun (Q : List WordRule) (W e : ℕ) : Type 0 where
+  pub ends : EqualsBefore Q e
+  pub first : (i : ℕ) → i < e → EqualsBefore Q i → ⊥
+  pub latest : e - 1 ≤ W + 1
+
 -- the stage that ends the run
 unfoldable pub finalStage : List WordRule → List ℕ
 finalStage Q = stage Q (ending Q)
@@ -35,12 +45,15 @@ pub record Reached (Q : List WordRule) (room k : ℕ) : Type 0 where
 
 -- ---- the answer of a run
 
--- r and the two working slices at exit: the number of members of the stage that ends the run, which stand in the first places of both, or one more than the room
+-- r and the two working slices at exit: the number of members of the stage that ends the run, which stand in the first places of both, or one more than the room.
+-- Both keep their length. Free are the words behind the members, and all words of both where a stage was too large: they may be any.
 pub record Settled (Q : List WordRule) (room r : ℕ) (a b : List ℕ) : Type 0 where
   pub count : r ≡ cond (crowded Q room) (room + 1) (length (finalStage Q))
   pub first : crowded Q room ≡ false → take r a ≡ finalStage Q
   pub second : crowded Q room ≡ false → take r b ≡ finalStage Q
   pub fits : crowded Q room ≡ false → r ≤ room
+  pub first-length : length a ≡ room
+  pub second-length : length b ≡ room
 
 -- the run has come to stage k, which stands in the first places of a
 pub record Settling (Q : List WordRule) (a : List ℕ) (members : ℕ) (b : List ℕ) (k : ℕ) : Type 0 where

@@ -166,7 +166,7 @@ fn minimal_from<'a>(
 ) -> usize
     requires { ⌜ (count ≤ length (now heads)) × (count ≤ length (now bodies)) ⌝ }
     requires { ⌜ Settling (rulesFrom (now heads) (now bodies) 0 count) (now a) 1 (now b) 0 ⌝ }
-    ensures { λ r. ⌜ Minimals (rulesFrom (now (heads .entry)) (now (bodies .entry)) 0 count) (length (now (a .entry))) r (now (a .exit)) ⌝ }
+    ensures { λ r. ⌜ Minimals (rulesFrom (now (heads .entry)) (now (bodies .entry)) 0 count) (length (now (a .entry))) r (now (a .exit)) (now (b .exit)) ⌝ }
 {
     let room = a.len();
     let n = settle(heads, bodies, count, a, 1, b, 0);
@@ -187,7 +187,7 @@ pub fn minimal_models<'a>(
     second: &mut [u64],
 ) -> usize
     requires { ⌜ (count ≤ length (now heads)) × (count ≤ length (now bodies)) × (length (now second) ≡ length (now first)) ⌝ }
-    ensures { λ r. ⌜ Minimals (rulesFrom (now (heads .entry)) (now (bodies .entry)) 0 count) (length (now (first .entry))) r (now (first .exit)) ⌝ }
+    ensures { λ r. ⌜ Minimals (rulesFrom (now (heads .entry)) (now (bodies .entry)) 0 count) (length (now (first .entry))) r (now (first .exit)) (now (second .exit)) ⌝ }
 {
     if first.len() == 0 {
         return 1;

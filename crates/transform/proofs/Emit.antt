@@ -1,8 +1,8 @@
 -- Clauses put one behind the other into two slices. Assumes nothing.
-use Prim.Native.Nat.{ℕ, zero, suc, _+_, _^_, _≤_, _<_}
+use Prim.Native.Nat.{ℕ, zero, suc, _+_, _-_, _^_, _≤_, _<_}
 use lib.Count.{trailingZeros}
-use lib.ListN.{length, getD, set, length-set, length-append}
-use lib.Seq.{getD-set-same, getD-set-other}
+use lib.ListN.{length, getD, drop, set, length-set, length-append}
+use lib.Seq.{getD-set-same, getD-set-other, drop-set-lt, drop-drop}
 use mathlib.Core.List.{List, [], _∷_, _++_, append-assoc, append-nil, flatMap}
 use mathlib.Core.Path.{_≡_, refl, sym, ap, ap₂, _∙_, subst}
 use native.Mathlib.Numerals.{add-one}
@@ -38,9 +38,17 @@ emits-one hs bs at h b p q = record {
       (ap₂ (λ (x y : ℕ). record { head = x; body = y }) (ap (λ (i : ℕ). getD (set hs at h) i 0) e ∙ getD-set-same hs at h 0 p) (ap (λ (i : ℕ). getD (set bs at b) i 0) e ∙ getD-set-same bs at b 0 q));
   heads = length-set hs at h;
   bodies = length-set bs at b;
+  heads-behind = drop-set-lt (at + 1) hs at h (omega arith);
+  bodies-behind = drop-set-lt (at + 1) bs at b (omega arith);
 }
 
 -- ---- clauses that are still to come
+
+-- what is the same from one place on is so from each later place on
+same-later : (xs ys : List ℕ) (i j : ℕ) → i ≤ j → drop i xs ≡ drop i ys → drop j xs ≡ drop j ys
+same-later xs ys i j h e =
+    let k : i + (j - i) ≡ j = omega arith in
+    ap (λ (n : ℕ). drop n xs) (sym k) ∙ sym (drop-drop (j - i) i xs) ∙ ap (drop (j - i)) e ∙ drop-drop (j - i) i ys ∙ ap (λ (n : ℕ). drop n ys) k
 
 pub record Emitting (X left : List WordRule) (hs₀ bs₀ : List ℕ) (at₀ : ℕ) (hs bs : List ℕ) (at : ℕ) : Type 0 where
   pub room : Room X hs₀ bs₀ at₀
@@ -48,9 +56,11 @@ pub record Emitting (X left : List WordRule) (hs₀ bs₀ : List ℕ) (at₀ : �
   pub rules : rulesFrom hs bs 0 at ++ left ≡ rulesFrom hs₀ bs₀ 0 at₀ ++ X
   pub heads : length hs ≡ length hs₀
   pub bodies : length bs ≡ length bs₀
+  pub heads-behind : drop at hs ≡ drop at hs₀
+  pub bodies-behind : drop at bs ≡ drop at bs₀
 
 pub emitting-start : (X : List WordRule) (hs bs : List ℕ) (at : ℕ) → Room X hs bs at → Emitting X X hs bs at hs bs at
-emitting-start X hs bs at r = record { room = r; count = refl; rules = refl; heads = refl; bodies = refl }
+emitting-start X hs bs at r = record { room = r; count = refl; rules = refl; heads = refl; bodies = refl; heads-behind = refl; bodies-behind = refl }
 
 module _ (X left : List WordRule) (hs₀ bs₀ : List ℕ) (at₀ : ℕ) (hs bs : List ℕ) (at : ℕ) (e : Emitting X left hs₀ bs₀ at₀ hs bs at) where
   pub emitting-room : (Y rest : List WordRule) → left ≡ Y ++ rest → Room Y hs bs at
@@ -65,6 +75,8 @@ module _ (X left : List WordRule) (hs₀ bs₀ : List ℕ) (at₀ : ℕ) (hs bs 
     rules = ap (λ (R : List WordRule). R ++ rest) (c .rules) ∙ append-assoc (rulesFrom hs bs 0 at) Y rest ∙ ap (λ (R : List WordRule). rulesFrom hs bs 0 at ++ R) (sym q) ∙ e .rules;
     heads = c .heads ∙ e .heads;
     bodies = c .bodies ∙ e .bodies;
+    heads-behind = c .heads-behind ∙ same-later hs hs₀ at r (omega (arith, c .count)) (e .heads-behind);
+    bodies-behind = c .bodies-behind ∙ same-later bs bs₀ at r (omega (arith, c .count)) (e .bodies-behind);
   }
 
   pub emitting-done : left ≡ [] → Emits X hs₀ bs₀ at₀ hs bs at
@@ -73,6 +85,8 @@ module _ (X left : List WordRule) (hs₀ bs₀ : List ℕ) (at₀ : ℕ) (hs bs 
     rules = sym (ap (λ (R : List WordRule). rulesFrom hs bs 0 at ++ R) q ∙ append-nil (rulesFrom hs bs 0 at)) ∙ e .rules;
     heads = e .heads;
     bodies = e .bodies;
+    heads-behind = e .heads-behind;
+    bodies-behind = e .bodies-behind;
   }
 
 pub emits-as : (X Y : List WordRule) (hs bs : List ℕ) (at : ℕ) (hs′ bs′ : List ℕ) (r : ℕ) → X ≡ Y → Emits X hs bs at hs′ bs′ r → Emits Y hs bs at hs′ bs′ r

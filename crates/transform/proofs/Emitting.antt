@@ -7,7 +7,7 @@ use lib.Count.{trailingZeros}
 use lib.Dec.{lit<}
 use lib.ListN.{length}
 use lib.Pow.{shl-exact}
-use mathlib.Core.List.{List, [], _∷_, flatMap}
+use mathlib.Core.List.{List, [], _∷_, flatMap, append-nil}
 use mathlib.Core.Path.{_≡_, refl, sym, ap, ap₂, _∙_, subst}
 use mir.Syntax.{w64}
 use mir.Val.{Fits}
@@ -56,7 +56,7 @@ c-is a t b hs bs at hs′ bs′ r e g = emits-as _ _ hs bs at hs′ bs′ r (ap 
 module _ (t p u q : ℕ) (hs bs : List ℕ) (at : ℕ) where
   pub d-none : t ≡ u → Emits (clauseD (record { literal = t; at = p }) (record { literal = u; at = q })) hs bs at hs bs at
   d-none e = emits-as [] (clauseD (record { literal = t; at = p }) (record { literal = u; at = q })) hs bs at hs bs at (sym (rw (eq-eqb t u e)))
-      (record { count = sym (add-zero at); rules = sym (mathlib.Core.List.append-nil (rulesFrom hs bs 0 at)); heads = refl; bodies = refl })
+      (record { count = sym (add-zero at); rules = sym (append-nil (rulesFrom hs bs 0 at)); heads = refl; bodies = refl; heads-behind = refl; bodies-behind = refl })
 
   two-apart : (t ≡ u → ⊥) → clauseD (record { literal = t; at = p }) (record { literal = u; at = q }) ≡ record { head = mask (p ∷ []); body = mask (t ∷ q ∷ []) } ∷ []
   two-apart n = rw (ne-eqb t u n)

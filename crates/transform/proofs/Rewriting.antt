@@ -6,8 +6,7 @@ use mathlib.Core.List.{List, [], _∷_, _++_}
 use mathlib.Core.Logic.{inl, inr}
 use mathlib.Core.Path.{_≡_, refl, sym, ap, _∙_, subst}
 use native.Mathlib.Omega.{arith}
-use Rattle.program.proofs.Validity.{Below}
-use Rattle.program.specs.Clauses.{Clause}
+use Rattle.program.specs.Clauses.{Clause, Below}
 use Rattle.sets.specs.Lists.{Each, below}
 use Rattle.transform.proofs.Emit.{Emitting, emitting-start, emitting-room, emitting-call, emitting-done}
 use Rattle.transform.specs.Emit.{Book, clausesFrom, Emits, Room}

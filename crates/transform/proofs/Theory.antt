@@ -18,8 +18,7 @@ use Rattle.epistemic.proofs.WordMain.{program}
 use Rattle.epistemic.proofs.Words.{map-++, map-flatMap, flatMap-map, map-cond}
 use Rattle.epistemic.specs.Positive.{Rule}
 use Rattle.epistemic.specs.Transform.{Tagged, Atom, lit, know, stand, ruleA, rulesB, rulesC, rulesD, kappaNaf, kappaPos, noNaf, kappaOf, kappa}
-use Rattle.program.proofs.Validity.{Below}
-use Rattle.program.specs.Clauses.{Clause}
+use Rattle.program.specs.Clauses.{Clause, Below}
 use Rattle.sets.proofs.Digits.{bit-zero, bit-small}
 use Rattle.sets.proofs.Rising.{rising-ext, sift-rising, below-rising}
 use Rattle.sets.proofs.Tests.{T?}

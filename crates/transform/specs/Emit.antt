@@ -1,22 +1,23 @@
 -- Clauses put one behind the other into two slices. Assumes nothing.
 use Prim.Native.Nat.{ℕ, zero, suc, _+_, _≤_}
-use lib.ListN.{length, getD}
+use lib.ListN.{length, getD, drop}
 use mathlib.Core.List.{List, [], _∷_, _++_, map, flatMap}
 use mathlib.Core.Path.{_≡_}
-use Rattle.program.specs.Clauses.{Clause}
-use Rattle.program.proofs.Validity.{Below}
+use Rattle.program.specs.Clauses.{Clause, Below}
 use Rattle.sets.specs.Lists.{Each}
 use Rattle.sets.specs.Words.{mask}
 use Rattle.rising.specs.Literals.{literals}
 use Rattle.operator.specs.Operator.{WordRule, rulesFrom}
 use Rattle.transform.specs.Transform.{Stand, numbered, clauseB, clauseC, clauseD}
 
--- the clauses X were put behind the first `at`: r and the slices at exit
+-- the clauses X were put behind the first `at`: r and the slices at exit, whose places behind the r-th hold what they held
 pub record Emits (X : List WordRule) (hs bs : List ℕ) (at : ℕ) (hs′ bs′ : List ℕ) (r : ℕ) : Type 0 where
   pub count : r ≡ at + length X
   pub rules : rulesFrom hs′ bs′ 0 r ≡ rulesFrom hs bs 0 at ++ X
   pub heads : length hs′ ≡ length hs
   pub bodies : length bs′ ≡ length bs
+  pub heads-behind : drop r hs′ ≡ drop r hs
+  pub bodies-behind : drop r bs′ ≡ drop r bs
 
 -- there is room for them
 pub record Room (X : List WordRule) (hs bs : List ℕ) (at : ℕ) : Type 0 where

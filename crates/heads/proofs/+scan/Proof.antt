@@ -57,7 +57,7 @@ pub +scan-spec : {M : Type 1} → statement M
     let p = s .pre .1 in
     let long = c .before .before .if3 .left in (
       omega (arith, s .pre .0, rest-less (s .args .free) (e .highest .result) (e .highest .ensures)),
-      (p .0, long, scan-rises _ _ _ _ _ _ (e .highest .ensures) (p .2) (p .1) _ _ (g .scan .ensures) (g .scan .kept .1 .1 .1 .1 .1 .1 .1 .0) long),
+      (p .0, long, scan-rises _ _ _ _ _ _ (e .highest .ensures) (p .2) (p .1) _ _ (g .scan .ensures) long),
     ))
     (λ c. search scans)
     (λ c. search scans)

@@ -111,6 +111,6 @@ pub +choose-spec : {M : Type 1} → statement M
     (λ c.
     let g = c .before .before .choose3 in
     let l = c .before .before .before .before .before .before .before .before .before in
-    choice-step _ _ _ _ _ _ _ _ _ _ _ _ _ _ (l .loop .inv) _ _ _ _ _ (c .before .before .before .before .before .before .before .before .loop-test .taken) (c .before .before .before .before .before .before .before .if4 .left) (c .before .before .before .before .before .before .lowest .ensures) (c .before .before .before .before .before .with .ensures) (g .ensures) (g .kept .1 .1 .1 .1 .1 .1 .1 .1 .0))
+    choice-step _ _ _ _ _ _ _ _ _ _ _ _ _ _ (l .loop .inv) _ _ _ _ _ (c .before .before .before .before .before .before .before .before .loop-test .taken) (c .before .before .before .before .before .before .before .if4 .left) (c .before .before .before .before .before .before .lowest .ensures) (c .before .before .before .before .before .with .ensures) (g .ensures))
     (λ c. search choosing)
     (λ c. search choosing)

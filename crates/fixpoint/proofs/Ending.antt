@@ -1,0 +1,41 @@
+-- Where the run of a table's stages ends: at the first stage equal to the one before, and a stage equal to its successor is reached at stage W + 1 at the latest. Assumes nothing.
+use mathlib.Core.Path.{_≡_, sym, subst}
+use mathlib.Core.Bool.{true}
+use mathlib.Core.List.{List}
+use Prim.Native.Nat.{ℕ, suc, _+_, _≤_}
+use native.Mathlib.Omega.{arith}
+use Rattle.sets.specs.Lists.{Each}
+use Rattle.program.specs.declared.Program.{Program}
+use Rattle.program.specs.Clauses.{Clause, Below, clauses}
+use Rattle.program.specs.Valid.{valid}
+use Rattle.program.proofs.Validity.{valid-names, valid-below}
+use Rattle.epistemic.proofs.Masks.{taggedFrom, small-tagged}
+use Rattle.epistemic.proofs.WordMain.{program, rest}
+use Rattle.operator.specs.Operator.{WordRule, stage}
+use Rattle.stages.specs.Run.{ending, EndsRun}
+use Rattle.stages.proofs.Bridge.{stage-same}
+use Rattle.stages.proofs.Run.{run-ends}
+use Rattle.stages.proofs.Minimal.{wordRule, alike-words}
+use Rattle.transform.specs.Transform.{epistemic, members}
+use Rattle.transform.proofs.Theory.{transformed, vocabularySize, epistemic-is, members-are}
+use Rattle.fixpoint.specs.Answer.{literalsOf, vocabulary, transformOf}
+use Rattle.fixpoint.proofs.Theorem.{heads}
+
+module _ (m : ℕ) (C : List Clause) (small : m ≤ 64) (under : Each (Below m) C) (fits : members m C ≤ 64) where
+  -- the theory's transform: its heads lie below W, and W + 1 rounds are enough
+  theory-ends : EndsRun (transformed m (taggedFrom m 0 C)) (vocabularySize m (taggedFrom m 0 C)) (ending (transformed m (taggedFrom m 0 C)))
+  unfolding transformed
+  theory-ends =
+      let P = taggedFrom m 0 C in
+      let W = vocabularySize m P in
+      let h : W ≤ 64 = subst (λ k. k ≤ 64) (sym (members-are m C small under)) fits in
+      run-ends (transformed m P) W (stage-same (transformed m P) (program m P) (alike-words (program m P) (heads m C under h)) (W + 1) (rest m P (small-tagged m 0 C) (W + 1) (omega arith)))
+
+  clauses-end : EndsRun (epistemic m (m + m) C) (members m C) (ending (epistemic m (m + m) C))
+  clauses-end = subst (λ (Q : List WordRule). EndsRun Q (members m C) (ending Q)) (sym (epistemic-is m C small under))
+      (subst (λ (W : ℕ). EndsRun (transformed m (taggedFrom m 0 C)) W (ending (transformed m (taggedFrom m 0 C)))) (members-are m C small under) theory-ends)
+
+-- the run of a valid table whose W is at most 64
+pub ends-run : (p : Program) → valid p ≡ true → vocabulary p ≤ 64 → EndsRun (transformOf p) (vocabulary p) (ending (transformOf p))
+unfolding transformOf vocabulary
+ends-run p v h = let n = valid-names p v .few in clauses-end (literalsOf p) (clauses p) (omega arith) (valid-below p v) h
