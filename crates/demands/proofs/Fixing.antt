@@ -24,6 +24,7 @@ use Rattle.fixpoint.specs.declared.FixpointAnswer.{FixpointAnswer}
 use Rattle.fixpoint.specs.Overwriting.{overwrite}
 use Rattle.fixpoint.specs.Answer.{vocabulary, transformOf, roomOf, found, refusal, listed, refused, answerOf, exitOf}
 use Rattle.fixpoint.proofs.Lists.{found-models}
+use Rattle.fixpoint.proofs.Ending.{ends-run}
 use Rattle.demands.specs.Demand3.{fixed, outcome, written, allModels, Crowded, ByFixpoint}
 use Rattle.demands.proofs.Outcomes.{full-spent, full-complete, spent-complete, refused-full, refused-spent, refused-complete, one-number}
 
@@ -132,6 +133,7 @@ module _ (p : Program) (l w v : List ℕ) where
   by-way t (by-eleven e h q x) =
       let o : answerOf p l w v .outcome ≡ Refused 11 = ap (λ a. a .outcome) q in
       record {
+        ends = ends-run p t;
         eleven = (λ i. h, λ i. o);
         twelve = (λ i. absurd (omega (arith, one-number o i)), λ i. absurd (omega (arith, i .0)));
         no-other = λ n i. inl (one-number i o);
@@ -144,6 +146,7 @@ module _ (p : Program) (l w v : List ℕ) where
   by-way t (by-twelve e h c q x) =
       let o : answerOf p l w v .outcome ≡ Refused 12 = ap (λ a. a .outcome) q in
       record {
+        ends = ends-run p t;
         eleven = (λ i. absurd (omega (arith, one-number o i)), λ i. absurd (omega arith));
         twelve = (λ i. (h, c), λ i. o);
         no-other = λ n i. inr (one-number i o);
@@ -156,6 +159,7 @@ module _ (p : Program) (l w v : List ℕ) where
   by-way t (ends-full e h c m q x) =
       let o : answerOf p l w v .outcome ≡ Full = ap (λ a. a .outcome) q in
       record {
+        ends = ends-run p t;
         eleven = (λ i. refused-full i o, λ i. absurd (omega arith));
         twelve = (λ i. refused-full i o, λ i. absurd (c (i .1)));
         no-other = λ n i. refused-full i o;
@@ -168,6 +172,7 @@ module _ (p : Program) (l w v : List ℕ) where
   by-way t (ends-complete e h c m q x) =
       let o : answerOf p l w v .outcome ≡ Complete = ap (λ a. a .outcome) q in
       record {
+        ends = ends-run p t;
         eleven = (λ i. refused-complete i o, λ i. absurd (omega arith));
         twelve = (λ i. refused-complete i o, λ i. absurd (c (i .1)));
         no-other = λ n i. refused-complete i o;

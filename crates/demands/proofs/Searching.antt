@@ -17,7 +17,7 @@ use Rattle.program.specs.Valid.{valid}
 use Rattle.search.specs.declared.Outcome.the-variants.{Complete, Full, Spent, Refused}
 use Rattle.search.specs.declared.SearchAnswer.{SearchAnswer}
 use Rattle.search.specs.Tree.{Node, hits}
-use Rattle.search.specs.Answer.{answer, nodesOf, leafOf, overfull, fullAt, runAnswer, answerOf}
+use Rattle.search.specs.Answer.{answer, nodesOf, leafOf, overfull, fullAt, runAnswer, answerOf, exitOf, listed}
 use Rattle.search.proofs.Runs as runs
 use Rattle.demands.specs.Demand3.{searched, outcome, written, allModels, leavesIn, nodeCount, BySearch}
 use Rattle.demands.proofs.Outcomes.{full-spent, full-complete, spent-complete, refused-full, refused-spent, refused-complete}
@@ -108,8 +108,8 @@ module _ (p : Program) (v : valid p ≡ true) (A : ℕ) (l : List ℕ) where
 -- ---- of every table
 module _ (p : Program) (A : ℕ) (l : List ℕ) where
   -- as many words are listed as are counted
-  pub counted : length (take (answerOf p A l .written) (Rattle.search.specs.Answer.exitOf p A l)) ≡ answerOf p A l .written
-  unfolding Rattle.search.specs.Answer.listed
+  pub counted : length (take (answerOf p A l .written) (exitOf p A l)) ≡ answerOf p A l .written
+  unfolding listed
   counted = ⊎-elim
       (λ v. ap length (runs.listed-is p A l v) ∙ sym (runs.written-is (leafOf p) (nodesOf p) A (length l)) ∙ ap (λ a. a .written) (sym (runs.accepted p A l v .0)))
       (λ v. ap length (runs.listed-none p A l v) ∙ ap (λ a. a .written) (sym (runs.refused p A l v .0)))

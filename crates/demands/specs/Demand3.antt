@@ -15,7 +15,7 @@ use Rattle.program.specs.Valid.{valid}
 use Rattle.semantics.specs.Definitions.{PStable}
 use Rattle.semantics.specs.Interpretations.{rulesOf, models}
 use Rattle.operator.specs.Operator.{stage}
-use Rattle.stages.specs.Run.{ending}
+use Rattle.stages.specs.Run.{ending, EndsRun}
 use Rattle.search.specs.declared.Outcome.{Outcome}
 use Rattle.search.specs.declared.Outcome.the-variants.{Complete, Full, Spent, Refused}
 use Rattle.search.specs.Tree.{hits}
@@ -101,6 +101,8 @@ abbrev pub Crowded : Program → ℕ → Type 0
 Crowded p room = (k : ℕ) × (k ≤ ending (transformOf p)) × (room < length (stage (transformOf p) k))
 
 pub record ByFixpoint (p : Program) (l w v : List ℕ) : Type 0 where
+  -- "The run ends at the first stage equal to the one before", and that stage is the one that `ending` names
+  pub ends : vocabulary p ≤ 64 → EndsRun (transformOf p) (vocabulary p) (ending (transformOf p))
   -- 11: "W exceeds 64"
   pub eleven : (outcome p (fixed l w v) ≡ Refused 11) ↔ (64 < vocabulary p)
   -- 12, "of several that apply, the lowest is given"
