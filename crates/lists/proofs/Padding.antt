@@ -20,17 +20,18 @@ pub padded-long : (k : ℕ) (s : List ℕ) → length s ≤ k → length (padded
 unfolding padded
 padded-long k s h = omega (arith, length-append s (replicate (k - length s) 0), length-replicate {A = ℕ} (k - length s) 0)
 
-zeros-at : (n j : ℕ) → getD {A = ℕ} (replicate n 0) j 0 ≡ 0
-zeros-at zero j = refl
-zeros-at (suc n) zero = refl
-zeros-at (suc n) (suc j) = zeros-at n j
+-- d in every place, and behind the last
+pub filler-at : {A : Type 0} (d : A) (n j : ℕ) → getD (replicate n d) j d ≡ d
+filler-at d zero j = refl
+filler-at d (suc n) zero = refl
+filler-at d (suc n) (suc j) = filler-at d n j
 
 pub padded-at : (k : ℕ) (s : List ℕ) (j : ℕ) → getD (padded k s) j 0 ≡ getD s j 0
 unfolding padded
 padded-at k s j = go s j (k - length s)
   where
     go : (s : List ℕ) (j n : ℕ) → getD (s ++ replicate n 0) j 0 ≡ getD s j 0
-    go [] j n = zeros-at n j
+    go [] j n = filler-at 0 n j
     go (x ∷ s) zero n = refl
     go (x ∷ s) (suc j) n = go s j n
 

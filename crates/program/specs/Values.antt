@@ -21,8 +21,8 @@ unfoldable pub clauseValue : Clause → ℕ → ℕ
 unfolding valueIn
 clauseValue c i = valueIn (c .head) i + 4 * valueIn (c .body) i + 16 * valueIn (c .naf) i
 
--- The same by membership, "the sum of" 1 where "the name stands in the head", 2 where "its negation does", 4 and 8 for the body,
--- 16 where ""not name" stands in the body", 32 where ""not negation" does": a part holds the name i where its bit 2i is set, the negation where bit 2i+1 is.
+-- The same by membership: "the sum of" 1 where "the name stands in the head" and 2 where "its negation does", so 4 and 8 for the body, and 16 and 32 for the not-part.
+-- A part is a word: it holds name i where bit 2i is set, and the negation of name i where bit 2i+1 is.
 unfoldable pub sumFor : Clause → ℕ → ℕ
 unfolding bit
 sumFor c i =

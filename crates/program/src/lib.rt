@@ -1,7 +1,6 @@
 // The table of a program, by value, the test of refusal 9, and the value of an atom in a word.
 ghost use mathlib.Core.Path.{_≡_};
 ghost use Prim.Native.Nat.{_+_, _%_, _≤_, _<_};
-ghost use lib.Dec.{eqb};
 ghost use lib.ListN.{take};
 ghost use Rattle.sets.specs.Lists.{every, anyOf, onward, tabulate};
 ghost use Rattle.lists.specs.Bytes.{same, distinct};

@@ -1,2 +1,3 @@
--- The laws of the summary.
+-- The laws of the summary; Meaning has the theorems.
 pub mod Laws
+pub mod Meaning

@@ -1,2 +1,3 @@
 -- What a summary shows.
 pub mod Summary
+pub mod Meaning

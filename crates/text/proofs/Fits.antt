@@ -14,7 +14,6 @@ use Rattle.lists.proofs.Pieces.{length-ended, end-le}
 use Rattle.program.specs.Names.{isName}
 use Rattle.program.specs.Refusals.{lowest}
 use Rattle.program.specs.declared.Program.{Program}
-use Rattle.program.specs.Clauses.{Clause}
 use Rattle.program.specs.Values.{wordBy, clauseOfValues}
 use Rattle.text.specs.declared.Verdict.the-variants.{Refused, Accepted}
 use Rattle.text.specs.Lines.{HasLine, names, clauseLines, row}

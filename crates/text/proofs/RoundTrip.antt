@@ -10,7 +10,7 @@ use borrow.Author.Tests.{eq-eqb, ne-eqb, eqb-true}
 use Rattle.sets.specs.Lists.{tabulate}
 use Rattle.sets.proofs.Tests.{dec}
 use Rattle.program.specs.declared.Program.{Program}
-use Rattle.program.specs.Clauses.{Clause, rows}
+use Rattle.program.specs.Clauses.{Clause}
 use Rattle.program.specs.Names.{namesOf}
 use Rattle.program.specs.Values.{clauseOfValues, clauseValues, sumFor}
 use Rattle.program.specs.Valid.{valid, Sized}

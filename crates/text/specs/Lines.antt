@@ -1,5 +1,4 @@
 -- The lines of a book and the items on them. Assumes nothing.
-use mathlib.Core.Bool.{Bool}
 use mathlib.Core.List.{List, [], _∷_, _++_, map, tail}
 use Prim.Native.Nat.{ℕ, _<_}
 use lib.ListN.{length}

@@ -5,7 +5,7 @@ use mathlib.Core.List.{map}
 use Prim.Native.Nat.{_+_}
 use native.Mathlib.Omega.{arith}
 use lib.ListN.{length}
-use Rattle.sets.specs.Lists.{anyOf, tabulate}
+use Rattle.sets.specs.Lists.{tabulate}
 use Rattle.program.specs.Clauses.{rowsOf}
 use Rattle.program.specs.Names.{nameAt}
 use Rattle.program.specs.Values.{clauseValues}
