@@ -5,48 +5,39 @@ use mathlib.Core.Bool.{Bool, true, false, cond}
 use mathlib.Core.List.{List, [], _∷_, _++_, map}
 use Prim.Native.Nat.{ℕ, zero, suc}
 use native.Mathlib.Omega.{arith}
-use lib.Dec.{eqb, ltb, leb}
+use lib.Dec.{ltb, leb}
 use lib.ListN.{length, take, replicate}
-use borrow.Author.Tests.{eqb-true, eqb-false, eq-eqb}
-use Rattle.sets.specs.Lists.{_∈_, Each}
-use Rattle.sets.proofs.Tests.{dec}
+use borrow.Author.Tests.{eq-eqb, ne-eqb}
+use Rattle.sets.specs.Lists.{Each}
+use Rattle.sets.proofs.Tests.{same?}
 use Rattle.sets.proofs.Lists.{each-++}
 use Rattle.lists.specs.Bytes.{oneIf}
 use Rattle.program.specs.declared.Program.{Program}
-use Rattle.program.specs.Clauses.{rows, clauses}
+use Rattle.program.specs.Clauses.{Clause, rows, clauses}
 use Rattle.program.specs.Refusals.{lowest, Applies, Lowest}
 use Rattle.program.proofs.Lowest.{rises, none-lowest, lowest-is, one-lowest}
 use Rattle.text.specs.declared.Verdict.{Verdict}
 use Rattle.text.specs.declared.Verdict.the-variants.{Accepted, Refused}
-use Rattle.semantics.specs.Interpretations.{leastSmaller}
 use Rattle.text.specs.Refusals as reading
-use Rattle.text.specs.Reading.{readOf}
 use Rattle.text.specs.Tables.{zeroTable}
-use Rattle.text.specs.Writing.{writtenLength}
-use Rattle.text.specs.Writing as writing
+use Rattle.text.specs.Writing.{writeRefusal, writtenLength}
+use Rattle.text.proofs.RoundTrip as trip
+use Rattle.text.proofs.Writings as writings
+use Rattle.semantics.specs.Interpretations.{leastSmaller}
 use Rattle.stable.specs.declared.Checked.the-variants.{Violated, Smaller, Stable}
-use Rattle.stable.specs.declared.Checked.the-variants as checked
-use Rattle.stable.specs.Check.{firstViolated}
+use Rattle.stable.specs.Check.{firstViolated, verdict}
 use Rattle.stable.specs.Check as checking
-use Rattle.summary.specs.Summary.{summaryOf, refusedSummary, summaryWith}
+use Rattle.summary.specs.Summary.{summaryWith, refusedSummary}
 use Rattle.summary.specs.Summary as summing
+use Rattle.summary.proofs.Meaning as meaning
 use Rattle.search.specs.declared.Outcome.the-variants.{Complete, Full, Spent}
+use Rattle.search.specs.declared.Outcome.the-variants as outcome
 use Rattle.search.specs.Tree.{hits}
 use Rattle.search.specs.Answer.{answer, leafOf, nodesOf, overfull, fullAt, runAnswer}
 use Rattle.search.specs.Answer as searching
 use Rattle.fixpoint.specs.Answer.{roomOf}
 use Rattle.fixpoint.specs.Answer as fixing
-use Rattle.demands.specs.Demand1.{Lent, Told, Call, read, write, check, summarize, search, fixpoint, told, Answers, numbersOf, ofWritten, ofChecked, ofOutcome, Demand1}
-
--- ---- a verdict by a number: accepted at 0
-abbrev verdictBy : ℕ → Verdict
-verdictBy n = cond (eqb n 0) Accepted (Refused n)
-
-verdict-zero : (n : ℕ) → n ≡ 0 → verdictBy n ≡ Accepted
-verdict-zero n z = rw (eq-eqb n 0 z)
-
-verdict-some : (n : ℕ) → (n ≡ 0 → ⊥) → verdictBy n ≡ Refused n
-verdict-some n d = ⊎-elim (λ e. absurd (d (eqb-true n 0 e))) (λ f. rw f) (dec (eqb n 0))
+use Rattle.demands.specs.Demand1.{Lent, Told, read, write, check, summarize, search, fixpoint, told, Answers, numbersOf, ofWritten, ofChecked, ofOutcome, Demand1}
 
 not-both : {A : Type 0} {v : Verdict} {n : ℕ} → v ≡ Accepted → v ≡ Refused n → A
 not-both a b = absurd (let z : _≡_ {A = ℕ} 0 1 = cc in omega arith)
@@ -54,17 +45,11 @@ not-both a b = absurd (let z : _≡_ {A = ℕ} 0 1 = cc in omega arith)
 one-number : {v : Verdict} {n m : ℕ} → v ≡ Refused n → v ≡ Refused m → n ≡ m
 one-number a b = cc
 
--- ---- a call whose verdict is that of the lowest number, and which leaves everything where that is not 0
-module _ (c : Told) (r : rises 0 (c .meets) ≡ true) (is : c .verdict ≡ verdictBy (lowest (c .meets))) where
-  -- 0 or not
+-- ---- a call that accepts where the lowest number is 0, and else is refused by it
+module _ (c : Told) (r : rises 0 (c .meets) ≡ true)
+    (zero-accepts : lowest (c .meets) ≡ 0 → c .verdict ≡ Accepted) (other-refuses : (lowest (c .meets) ≡ 0 → ⊥) → c .verdict ≡ Refused (lowest (c .meets))) where
   number? : (lowest (c .meets) ≡ 0) ⊎ (lowest (c .meets) ≡ 0 → ⊥)
-  number? = ⊎-elim (λ e. inl (eqb-true (lowest (c .meets)) 0 e)) (λ f. inr (eqb-false (lowest (c .meets)) 0 f)) (dec (eqb (lowest (c .meets)) 0))
-
-  zero-accepts : lowest (c .meets) ≡ 0 → c .verdict ≡ Accepted
-  zero-accepts z = is ∙ verdict-zero (lowest (c .meets)) z
-
-  other-refuses : (lowest (c .meets) ≡ 0 → ⊥) → c .verdict ≡ Refused (lowest (c .meets))
-  other-refuses d = is ∙ verdict-some (lowest (c .meets)) d
+  number? = same? (lowest (c .meets)) 0
 
   refused-is : (n : ℕ) → (c .verdict ≡ Refused n) ↔ Lowest (c .meets) n
   refused-is n = (
@@ -131,79 +116,98 @@ zero-table =
     let all = zeros-append (replicate 96 0) (z ++ (z ++ z)) (zeros 96) (zeros-append z (z ++ z) (zeros 64) two) in
     zero-more 0 (0 ∷ (replicate 96 0 ++ (z ++ (z ++ z)))) refl (zero-more 0 (replicate 96 0 ++ (z ++ (z ++ z))) refl all)
 
--- ---- the verdict of each call, and what a refusal shows
-reads : (b : List ℕ) → (readOf b .verdict ≡ verdictBy (reading.refusal b)) × ((reading.refusal b ≡ 0 → ⊥) → Zeros (numbersOf (readOf b .program)))
-unfolding readOf
-reads b = ⊎-elim
-    (λ t. (rw t, λ d. absurd (d (eqb-true (reading.refusal b) 0 t))))
-    (λ f. (rw f, λ d. rw f zero-table))
-    (dec (eqb (reading.refusal b) 0))
-
-writes : (p : Program) (out : List ℕ) → (ofWritten (writing.answerOf p out) ≡ verdictBy (writing.writeRefusal p out))
-    × ((writing.writeRefusal p out ≡ 0 → ⊥) → (writing.exitOf p out ≡ out) × (writtenLength (writing.answerOf p out) ≡ 0))
-unfolding writing.answerOf writing.exitOf
-writes p out = ⊎-elim
-    (λ t. (rw t, λ d. absurd (d (eqb-true (writing.writeRefusal p out) 0 t))))
-    (λ f. (rw f, λ d. (rw f, rw f)))
-    (dec (eqb (writing.writeRefusal p out) 0))
-
-checks : (p : Program) (w : ℕ) → ofChecked (checking.answerOf p w) ≡ verdictBy (checking.refusal p w)
-unfolding checking.answerOf checking.verdict
-checks p w = go (eqb (checking.refusal p w) 0) (ltb (firstViolated (rows p) w) (length (rows p))) (ltb (leastSmaller (clauses p) w) w)
+-- ---- what is accepted is no refusal
+checked-accepts : (R P : List Clause) (w : ℕ) → ofChecked (verdict R P w) ≡ Accepted
+unfolding verdict
+checked-accepts R P w = go (ltb (firstViolated R w) (length R)) (ltb (leastSmaller P w) w)
   where
-    go : (x y z : Bool) → ofChecked (cond x (cond y (Violated (firstViolated (rows p) w)) (cond z (Smaller (leastSmaller (clauses p) w)) Stable)) (checked.Refused (checking.refusal p w))) ≡ cond x Accepted (Refused (checking.refusal p w))
-    go true true z = refl
-    go true false true = refl
-    go true false false = refl
-    go false y z = refl
+    go : (y z : Bool) → ofChecked (cond y (Violated (firstViolated R w)) (cond z (Smaller (leastSmaller P w)) Stable)) ≡ Accepted
+    go true z = refl
+    go false true = refl
+    go false false = refl
 
-sums : (p : Program) (ws : List ℕ) → (summaryOf p ws .verdict ≡ verdictBy (summing.refusal p ws))
-    × ((summing.refusal p ws ≡ 0 → ⊥) → Zeros (summaryOf p ws .occurring ++ map oneIf (summaryOf p ws .settled)))
-unfolding summaryOf refusedSummary summaryWith
-sums p ws = ⊎-elim
-    (λ t. (rw t, λ d. absurd (d (eqb-true (summing.refusal p ws) 0 t))))
-    (λ f. (rw f, λ d. rw f (zeros-append (replicate 12 0) (map oneIf (replicate 12 false)) (zeros 12) (zeros 12))))
-    (dec (eqb (summing.refusal p ws) 0))
-
-searches : (p : Program) (A : ℕ) (l : List ℕ) → (ofOutcome (searching.answerOf p A l .outcome) ≡ verdictBy (searching.refusal p))
-    × ((searching.refusal p ≡ 0 → ⊥) → (searching.exitOf p A l ≡ l) × (searching.answerOf p A l .written ≡ 0) × (searching.answerOf p A l .visited ≡ 0))
-unfolding searching.answerOf searching.exitOf runAnswer
-searches p A l = ⊎-elim
-    (λ t. (rw t (go (overfull (leafOf p) (nodesOf p) (length l) A) (ltb A (length (nodesOf p)))), λ d. absurd (d (eqb-true (searching.refusal p) 0 t))))
-    (λ f. (rw f, λ d. (rw f, rw f, rw f)))
-    (dec (eqb (searching.refusal p) 0))
+search-accepts : (p : Program) (A L : ℕ) → ofOutcome (runAnswer (leafOf p) (nodesOf p) A L .outcome) ≡ Accepted
+unfolding runAnswer
+search-accepts p A L = go (overfull (leafOf p) (nodesOf p) L A) (ltb A (length (nodesOf p)))
   where
-    go : (x y : Bool) → ofOutcome ((cond x (answer Full (length l) (fullAt (leafOf p) (nodesOf p) (length l)))
-        (cond y (answer Spent (length (hits (leafOf p) (take A (nodesOf p)))) A) (answer Complete (length (hits (leafOf p) (take A (nodesOf p)))) (length (nodesOf p))))) .outcome) ≡ Accepted
+    found : ℕ
+    found = length (hits (leafOf p) (take A (nodesOf p)))
+
+    go : (x y : Bool) → ofOutcome ((cond x (answer Full L (fullAt (leafOf p) (nodesOf p) L)) (cond y (answer Spent found A) (answer Complete found (length (nodesOf p))))) .outcome) ≡ Accepted
     go true y = refl
     go false true = refl
     go false false = refl
 
-fixes : (p : Program) (l w v : List ℕ) → (ofOutcome (fixing.answerOf p l w v .outcome) ≡ verdictBy (fixing.refusal p (roomOf w v)))
-    × ((fixing.refusal p (roomOf w v) ≡ 0 → ⊥) → (fixing.exitOf p l w v ≡ l) × (fixing.answerOf p l w v .written ≡ 0))
-unfolding fixing.answerOf fixing.exitOf fixing.listed fixing.refused
-fixes p l w v = ⊎-elim
-    (λ t. (rw t (go (leb (length (fixing.found p)) (length l))), λ d. absurd (d (eqb-true (fixing.refusal p (roomOf w v)) 0 t))))
-    (λ f. (rw f, λ d. (rw f, rw f)))
-    (dec (eqb (fixing.refusal p (roomOf w v)) 0))
+fix-accepts : (n m : ℕ) → ofOutcome (fixing.listed n m .outcome) ≡ Accepted
+unfolding fixing.listed
+fix-accepts n m = go (leb n m)
   where
     go : (x : Bool) → ofOutcome (cond x Complete Full) ≡ Accepted
     go true = refl
     go false = refl
 
+-- ---- each call, where its number is 0 and where not
+module _ (p : Program) (w : ℕ) where
+  check-zero : checking.refusal p w ≡ 0 → ofChecked (checking.answerOf p w) ≡ Accepted
+  unfolding checking.answerOf
+  check-zero z = rw (eq-eqb (checking.refusal p w) 0 z) (checked-accepts (rows p) (clauses p) w)
+
+  check-other : (checking.refusal p w ≡ 0 → ⊥) → ofChecked (checking.answerOf p w) ≡ Refused (checking.refusal p w)
+  unfolding checking.answerOf
+  check-other d = rw (ne-eqb (checking.refusal p w) 0 d)
+
+module _ (p : Program) (A : ℕ) (l : List ℕ) where
+  search-zero : searching.refusal p ≡ 0 → ofOutcome (searching.answerOf p A l .outcome) ≡ Accepted
+  unfolding searching.answerOf
+  search-zero z = rw (eq-eqb (searching.refusal p) 0 z) (search-accepts p A (length l))
+
+  search-other : (searching.refusal p ≡ 0 → ⊥) → (searching.answerOf p A l ≡ answer (outcome.Refused (searching.refusal p)) 0 0) × (searching.exitOf p A l ≡ l)
+  unfolding searching.answerOf searching.exitOf
+  search-other d = (rw (ne-eqb (searching.refusal p) 0 d), rw (ne-eqb (searching.refusal p) 0 d))
+
+module _ (p : Program) (l w v : List ℕ) where
+  fix-zero : fixing.refusal p (roomOf w v) ≡ 0 → ofOutcome (fixing.answerOf p l w v .outcome) ≡ Accepted
+  unfolding fixing.answerOf
+  fix-zero z = rw (eq-eqb (fixing.refusal p (roomOf w v)) 0 z) (fix-accepts (length (fixing.found p)) (length l))
+
+  fix-other : (fixing.refusal p (roomOf w v) ≡ 0 → ⊥) → (fixing.answerOf p l w v ≡ fixing.refused (fixing.refusal p (roomOf w v))) × (fixing.exitOf p l w v ≡ l)
+  unfolding fixing.answerOf fixing.exitOf
+  fix-other d = (rw (ne-eqb (fixing.refusal p (roomOf w v)) 0 d), rw (ne-eqb (fixing.refusal p (roomOf w v)) 0 d))
+
 -- Demand 1.
 pub demand-1 : Demand1
-unfolding told rises reading.refusal writing.writeRefusal checking.refusal summing.refusal searching.refusal fixing.refusal
-demand-1 (read b r) e = let a = reads b in
-    answers (told (read b r)) refl (ap (λ x. x .verdict) e ∙ a .0) (λ d x m. absurd m) (λ d. subst (λ x. Zeros (numbersOf (x .program))) (sym e) (a .1 d)) (λ x m. absurd m)
-demand-1 (write p o r) e = let a = writes p (o .entry) in
-    answers (told (write p o r)) refl (ap ofWritten (e .answer) ∙ a .0) (λ d. kept-one o (e .slice ∙ a .1 d .0)) (λ d. zero-more _ [] (ap writtenLength (e .answer) ∙ a .1 d .1) (λ x m. absurd m)) (λ x m. absurd m)
-demand-1 (check p w r) e = answers (told (check p w r)) refl (ap ofChecked (e .answer) ∙ checks p w) (λ d x m. absurd m) (λ d x m. absurd m) (λ x m. absurd m)
-demand-1 (summarize p ws r) e = let a = sums p ws in
-    answers (told (summarize p ws r)) refl (ap (λ x. x .verdict) e ∙ a .0) (λ d x m. absurd m) (λ d. subst (λ x. Zeros (x .occurring ++ map oneIf (x .settled))) (sym e) (a .1 d)) (λ x m. absurd m)
-demand-1 (search p A l r) e = let a = searches p A (l .entry) in
-    answers (told (search p A l r)) refl (ap (λ x. ofOutcome (x .outcome)) (e .says) ∙ a .0) (λ d. kept-one l (e .lists ∙ a .1 d .0))
-    (λ d. zero-more (r .written) (r .visited ∷ []) (ap (λ x. x .written) (e .says) ∙ a .1 d .1) (zero-more _ [] (ap (λ x. x .visited) (e .says) ∙ a .1 d .2) (λ x m. absurd m))) (λ x m. absurd m)
-demand-1 (fixpoint p l w v r) e = let a = fixes p (l .entry) (w .entry) (v .entry) in
-    answers (told (fixpoint p l w v r)) refl (ap (λ x. ofOutcome (x .outcome)) (e .says) ∙ a .0) (λ d. kept-one l (e .lists ∙ a .1 d .0))
-    (λ d. zero-more _ [] (ap (λ x. x .written) (e .says) ∙ a .1 d .1) (λ x m. absurd m)) (long-two w v (e .first-length) (e .second-length))
+unfolding told rises reading.refusal writeRefusal checking.refusal summing.refusal searching.refusal fixing.refusal fixing.refused summaryWith refusedSummary
+demand-1 (read b r) e = answers (told (read b r)) refl
+    (λ z. ap (λ x. x .verdict) (e ∙ trip.taken b z))
+    (λ d. ap (λ x. x .verdict) (e ∙ trip.refused b d))
+    (λ d x m. absurd m)
+    (λ d. subst (λ x. Zeros (numbersOf (x .program))) (sym (e ∙ trip.refused b d)) zero-table)
+    (λ x m. absurd m)
+demand-1 (write p o r) e = answers (told (write p o r)) refl
+    (λ z. ap ofWritten (e .answer ∙ writings.accepted p (o .entry) z .0))
+    (λ d. ap ofWritten (e .answer ∙ writings.refused p (o .entry) d .0))
+    (λ d. kept-one o (e .slice ∙ writings.refused p (o .entry) d .1))
+    (λ d. zero-more _ [] (ap writtenLength (e .answer ∙ writings.refused p (o .entry) d .0)) (λ x m. absurd m))
+    (λ x m. absurd m)
+demand-1 (check p w r) e = answers (told (check p w r)) refl
+    (λ z. ap ofChecked (e .answer) ∙ check-zero p w z)
+    (λ d. ap ofChecked (e .answer) ∙ check-other p w d)
+    (λ d x m. absurd m) (λ d x m. absurd m) (λ x m. absurd m)
+demand-1 (summarize p ws r) e = answers (told (summarize p ws r)) refl
+    (λ z. ap (λ x. x .verdict) (e ∙ meaning.accepted p ws z))
+    (λ d. ap (λ x. x .verdict) (e ∙ meaning.refused p ws d))
+    (λ d x m. absurd m)
+    (λ d. subst (λ x. Zeros (x .occurring ++ map oneIf (x .settled))) (sym (e ∙ meaning.refused p ws d)) (zeros-append (replicate 12 0) (map oneIf (replicate 12 false)) (zeros 12) (zeros 12)))
+    (λ x m. absurd m)
+demand-1 (search p A l r) e = answers (told (search p A l r)) refl
+    (λ z. ap (λ x. ofOutcome (x .outcome)) (e .says) ∙ search-zero p A (l .entry) z)
+    (λ d. ap (λ x. ofOutcome (x .outcome)) (e .says ∙ search-other p A (l .entry) d .0))
+    (λ d. kept-one l (e .lists ∙ search-other p A (l .entry) d .1))
+    (λ d. let q = e .says ∙ search-other p A (l .entry) d .0 in zero-more (r .written) (r .visited ∷ []) (ap (λ x. x .written) q) (zero-more (r .visited) [] (ap (λ x. x .visited) q) (λ x m. absurd m)))
+    (λ x m. absurd m)
+demand-1 (fixpoint p l w v r) e = answers (told (fixpoint p l w v r)) refl
+    (λ z. ap (λ x. ofOutcome (x .outcome)) (e .says) ∙ fix-zero p (l .entry) (w .entry) (v .entry) z)
+    (λ d. ap (λ x. ofOutcome (x .outcome)) (e .says ∙ fix-other p (l .entry) (w .entry) (v .entry) d .0))
+    (λ d. kept-one l (e .lists ∙ fix-other p (l .entry) (w .entry) (v .entry) d .1))
+    (λ d. zero-more (r .written) [] (ap (λ x. x .written) (e .says ∙ fix-other p (l .entry) (w .entry) (v .entry) d .0)) (λ x m. absurd m))
+    (long-two w v (e .first-length) (e .second-length))

@@ -44,9 +44,11 @@ is-accepted b r e a = ap (λ (x : Read). refusedBy (x .verdict)) (sym e) ∙ ap 
 
 exactly : (b : List ℕ) → refusedBy (readOf b .verdict) ≡ 0 → ReadsExactly b (readOf b .program)
 unfolding names
-exactly b a =
-    let x = trip.reads-exactly b a in
-    record { names-read = x .names-read; clauses-read = x .clauses-read; values-read = x .values-read ∙ ap (λ (k : ℕ). map (λ c. tabulate (sumFor c) k) (rows (readOf b .program))) (ap length (sym (x .names-read))) }
+exactly b a = record {
+  names-read = trip.names-read b a;
+  clauses-read = trip.clauses-read b a;
+  values-read = trip.values-read b a ∙ ap (λ (ns : List (List ℕ)). map (λ c. tabulate (sumFor c) (length ns)) (rows (readOf b .program))) (sym (trip.names-read b a));
+}
 
 -- what is read is a table that is accepted
 read-valid : (b : List ℕ) → refusedBy (readOf b .verdict) ≡ 0 → valid (readOf b .program) ≡ true

@@ -24,7 +24,7 @@ use Rattle.stable.proofs.Decides.{stable-PStable, PStable-stable}
 use Rattle.search.specs.declared.Outcome.the-variants.{Complete, Full, Spent, Refused}
 use Rattle.search.specs.declared.SearchAnswer.{SearchAnswer}
 use Rattle.search.specs.Tree.{Node, Dead, dead, tree, nodeCount, hits, stableLeaves}
-use Rattle.search.specs.Answer.{answer, overfull, fullAt, runAnswer, listing, runExit, leafOf, nodesOf, refusal, answerOf, exitOf, listed, refusedBy, Searches, Ends}
+use Rattle.search.specs.Answer.{answer, overfull, fullAt, runAnswer, listing, runExit, leafOf, nodesOf, refusal, answerOf, exitOf, listed, Searches, Ends}
 use Rattle.search.specs.Packed.{packedRows, Packs}
 use Rattle.search.proofs.Packing.{packed-rows}
 use Rattle.search.proofs.Nodes.{hits-append, leaves-models, unstable-below, count-nodes}
@@ -127,20 +127,6 @@ module _ (p : Program) (A : ℕ) (l : List ℕ) where
   pub refused : valid p ≡ false → (answerOf p A l ≡ answer (Refused 9) 0 0) × (exitOf p A l ≡ l)
   unfolding answerOf exitOf refusal lowest
   refused v = (rw v, rw v)
-
-  -- the number that a refusal carries is document 01's lowest
-  pub refused-by : refusedBy (answerOf p A l .outcome) ≡ refusal p
-  unfolding answerOf refusedBy refusal lowest runAnswer
-  refused-by = go (valid p) (overfull (leafOf p) (nodesOf p) (length l) A) (ltb A (length (nodesOf p)))
-    where
-      go : (v b c : Bool) → refusedBy ((cond (eqb (cond (not v) 9 0) 0)
-          (cond b (answer Full (length l) (fullAt (leafOf p) (nodesOf p) (length l)))
-          (cond c (answer Spent (length (hits (leafOf p) (take A (nodesOf p)))) A) (answer Complete (length (hits (leafOf p) (take A (nodesOf p)))) (length (nodesOf p)))))
-          (answer (Refused (cond (not v) 9 0)) 0 0)) .outcome) ≡ cond (not v) 9 0
-      go true true c = refl
-      go true false true = refl
-      go true false false = refl
-      go false b c = refl
 
   pub listed-is : valid p ≡ true → listed p A l ≡ listing (leafOf p) (nodesOf p) A (length l)
   unfolding listed

@@ -23,7 +23,7 @@ use Rattle.stable.specs.declared.Checked.{Checked}
 use Rattle.stable.specs.declared.Checked.the-variants.{Refused, Violated, Smaller, Stable}
 use Rattle.semantics.specs.Definitions.{PStable}
 use Rattle.semantics.specs.Interpretations.{rulesOf, satisfies, reduct, isModel, smaller, leastSmaller, isStable}
-use Rattle.stable.specs.Check.{firstViolated, verdict, refusal, answerOf, refusedBy, FirstViolated, LeastSmaller, Says, Checks}
+use Rattle.stable.specs.Check.{firstViolated, verdict, refusal, answerOf, FirstViolated, LeastSmaller, Says, Checks}
 use Rattle.stable.proofs.Readings.{Satisfies-satisfies, satisfies-Satisfies, isModel-Model, Model-isModel}
 use Rattle.stable.proofs.Decides.{stable-PStable, PStable-stable}
 use Rattle.stable.proofs.Checking.{model-least, first-violated-is}
@@ -107,18 +107,6 @@ module _ (p : Program) (w : ℕ) where
 
   pub answered : (r : Checked) → r ≡ answerOf p w → Checks p w r
   answered r e = record { answer = e; says = subst (λ (a : Checked). Says p w a) (sym e) answer-says }
-
-  -- the number that a refusal carries is document 01's lowest
-  pub refused-by : refusedBy (answerOf p w) ≡ refusal p w
-  unfolding answerOf refusedBy verdict
-  refused-by = go (eqb (refusal p w) 0) refl (ltb (firstViolated (rows p) w) (length (rows p))) (ltb (leastSmaller (clauses p) w) w)
-    where
-      go : (b : Bool) → eqb (refusal p w) 0 ≡ b → (c d : Bool)
-          → refusedBy (cond b (cond c (Violated (firstViolated (rows p) w)) (cond d (Smaller (leastSmaller (clauses p) w)) Stable)) (Refused (refusal p w))) ≡ refusal p w
-      go true e true d = sym (eqb-true _ _ e)
-      go true e false true = sym (eqb-true _ _ e)
-      go true e false false = sym (eqb-true _ _ e)
-      go false e c d = refl
 
   -- the check says stable exactly when Definition 3.1 does
   pub stable-exactly : refusal p w ≡ 0 → (answerOf p w ≡ Stable) ↔ PStable (rulesOf (clauses p)) (bit w)

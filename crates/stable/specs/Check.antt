@@ -40,13 +40,6 @@ unfoldable pub answerOf : Program → ℕ → Checked
 answerOf p w = cond (eqb (refusal p w) 0) (verdict (rows p) (clauses p) w) (Refused (refusal p w))
 
 -- ---- what each case says, in document 01's numbers and values
--- "A refusal carries its number"; 0 where the check is not refused
-unfoldable pub refusedBy : Checked → ℕ
-refusedBy (Refused n) = n
-refusedBy (Violated k) = 0
-refusedBy (Smaller j) = 0
-refusedBy Stable = 0
-
 -- clause k of the book is violated by I, and none before it is
 pub record FirstViolated (P : List Clause) (I k : ℕ) : Type 0 where
   pub in-book : k < length P

@@ -1,5 +1,5 @@
 -- What a text is read as, and the round trip, both ways: what is read is what is written. Assumes nothing.
-use mathlib.Core.Path.{_≡_, sym, ap, ap₂, _∙_, subst, fun-ext}
+use mathlib.Core.Path.{_≡_, sym, ap, ap₂, _∙_, fun-ext}
 use mathlib.Core.Bool.{true}
 use mathlib.Core.Logic.{_↔_, ⊎-elim}
 use mathlib.Core.List.{List, map}
@@ -10,17 +10,17 @@ use borrow.Author.Tests.{eq-eqb, ne-eqb, eqb-true}
 use Rattle.sets.specs.Lists.{tabulate}
 use Rattle.sets.proofs.Tests.{dec}
 use Rattle.program.specs.declared.Program.{Program}
-use Rattle.program.specs.Clauses.{Clause}
+use Rattle.program.specs.Clauses.{Clause, rows}
 use Rattle.program.specs.Names.{namesOf}
 use Rattle.program.specs.Values.{clauseOfValues, clauseValues, sumFor}
 use Rattle.program.specs.Valid.{valid, Sized}
 use Rattle.program.proofs.Values.{value-sum}
-use Rattle.text.specs.declared.Verdict.the-variants.{Accepted}
+use Rattle.text.specs.declared.Verdict.the-variants.{Accepted, Refused}
 use Rattle.text.specs.Lines.{names, clauseLines, row}
 use Rattle.text.specs.Tables.{tableOf, zeroTable}
 use Rattle.text.specs.Render.{bookText, valuesOf, render}
 use Rattle.text.specs.Refusals.{refusal}
-use Rattle.text.specs.Reading.{refusedBy, programOf, readOf, IsAccepted, ReadsExactly}
+use Rattle.text.specs.Reading.{refusedBy, programOf, readOf, IsAccepted}
 use Rattle.text.proofs.Books.{text-back, names-again, rows-again}
 use Rattle.text.proofs.Tables.{names-of-table, rows-of-table, all-values, values-of-table, table-back, clauses-again, good-table, valid-with, sized-with}
 use Rattle.text.proofs.Accepts.{accept-text, good-read}
@@ -33,17 +33,17 @@ refused-by b = ⊎-elim
     (λ f. rw f)
     (dec (eqb (refusal b) 0))
 
--- "the reader's comes with an all-zero table"
-pub refused-table : (b : List ℕ) → (refusal b ≡ 0 → ⊥) → readOf b .program ≡ zeroTable
-unfolding readOf
-refused-table b h = rw (ne-eqb (refusal b) 0 h)
-
 cleared : (b : List ℕ) → IsAccepted b → refusal b ≡ 0
 cleared b a = sym (refused-by b) ∙ a
 
-taken : (b : List ℕ) → refusal b ≡ 0 → readOf b ≡ record { verdict = Accepted; program = programOf b }
+pub taken : (b : List ℕ) → refusal b ≡ 0 → readOf b ≡ record { verdict = Accepted; program = programOf b }
 unfolding readOf
 taken b z = rw (eq-eqb (refusal b) 0 z)
+
+-- "A refusal carries its number; the reader's comes with an all-zero table"
+pub refused : (b : List ℕ) → (refusal b ≡ 0 → ⊥) → readOf b ≡ record { verdict = Refused (refusal b); program = zeroTable }
+unfolding readOf
+refused b h = rw (ne-eqb (refusal b) 0 h)
 
 accepted : (b : List ℕ) → refusal b ≡ 0 → IsAccepted b
 accepted b z = refused-by b ∙ z
@@ -85,24 +85,24 @@ values-sums : (n : ℕ) → clauseValues n ≡ (λ c. tabulate (sumFor c) n)
 unfolding clauseValues
 values-sums n = fun-ext (λ (c : Clause). ap (λ (f : ℕ → ℕ). tabulate f n) (fun-ext (value-sum c)))
 
-exactly : (b : List ℕ) → refusal b ≡ 0 → ReadsExactly b (programOf b)
-unfolding programOf
-exactly b z =
-    let g = good-read b z in
-    let n = length (names b) in
-    let vss = map row (clauseLines b) in
-    let e = rows-of-table (names b) (map clauseOfValues vss) in
-    record {
-      names-read = names-of-table (names b) (map clauseOfValues vss) (g .named);
-      clauses-read = e;
-      values-read = sym (all-values n vss (g .ruled)) ∙ ap₂ (λ (f : Clause → List ℕ) (cs : List Clause). map f cs) (values-sums n) (sym e);
-    }
-
 -- ==== the theorems
 
--- "A book is read as exactly its clauses": the names of its first line, and a clause for each further line, by the values on it.
-pub reads-exactly : (b : List ℕ) → IsAccepted b → ReadsExactly b (readOf b .program)
-reads-exactly b a = let z = cleared b a in subst (λ (p : Program). ReadsExactly b p) (sym (program-is b z)) (exactly b z)
+-- The names of the table that an accepted text is read as are the items of its first line.
+pub names-read : (b : List ℕ) → IsAccepted b → namesOf (readOf b .program) ≡ names b
+unfolding programOf
+names-read b a = let z = cleared b a in ap namesOf (program-is b z) ∙ names-of-table (names b) (map clauseOfValues (map row (clauseLines b))) (good-read b z .named)
+
+-- Its clauses are the further lines, each read by its values.
+pub clauses-read : (b : List ℕ) → IsAccepted b → rows (readOf b .program) ≡ map clauseOfValues (map row (clauseLines b))
+unfolding programOf
+clauses-read b a = ap rows (program-is b (cleared b a)) ∙ rows-of-table (names b) (map clauseOfValues (map row (clauseLines b)))
+
+-- The values on those lines are the sums, for each clause and name, over where the name stands.
+pub values-read : (b : List ℕ) → IsAccepted b → map row (clauseLines b) ≡ map (λ c. tabulate (sumFor c) (length (names b))) (rows (readOf b .program))
+values-read b a =
+    let vss = map row (clauseLines b) in
+    sym (all-values (length (names b)) vss (good-read b (cleared b a) .ruled))
+    ∙ ap₂ (λ (f : Clause → List ℕ) (cs : List Clause). map f cs) (values-sums (length (names b))) (sym (clauses-read b a))
 
 -- An accepted text is the text of the program that it is read as, byte for byte.
 pub written-back : (b : List ℕ) → IsAccepted b → render (readOf b .program) ≡ b

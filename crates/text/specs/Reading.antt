@@ -4,12 +4,8 @@ use mathlib.Core.Bool.{cond}
 use mathlib.Core.List.{List, map}
 use Prim.Native.Nat.{ℕ}
 use lib.Dec.{eqb}
-use lib.ListN.{length}
-use Rattle.sets.specs.Lists.{tabulate}
 use Rattle.program.specs.declared.Program.{Program}
-use Rattle.program.specs.Clauses.{rows}
-use Rattle.program.specs.Names.{namesOf}
-use Rattle.program.specs.Values.{clauseOfValues, sumFor}
+use Rattle.program.specs.Values.{clauseOfValues}
 use Rattle.text.specs.declared.Read.{Read}
 use Rattle.text.specs.declared.Verdict.{Verdict}
 use Rattle.text.specs.declared.Verdict.the-variants.{Accepted, Refused}
@@ -35,10 +31,3 @@ readOf b = cond (eqb (refusal b) 0)
 -- the reader takes the text
 abbrev pub IsAccepted : List ℕ → Type 0
 IsAccepted b = refusedBy (readOf b .verdict) ≡ 0
-
--- The text is read as exactly its clauses: the table has the names of its first line, and the clauses of its further lines, one for each.
--- By membership: the values on those lines are, for each clause of the table and "each name in that order", the sum for where the name stands.
-pub record ReadsExactly (b : List ℕ) (p : Program) : Type 0 where
-  pub names-read : namesOf p ≡ names b
-  pub clauses-read : rows p ≡ map clauseOfValues (map row (clauseLines b))
-  pub values-read : map row (clauseLines b) ≡ map (λ c. tabulate (sumFor c) (length (names b))) (rows p)

@@ -13,11 +13,7 @@ use Rattle.text.specs.declared.Written.{Written}
 use Rattle.text.specs.declared.Written.the-variants.{Refused, Length}
 use Rattle.text.specs.Render.{render}
 
--- the number of an answer's refusal, 0 for none, and the length that it gives, "counts are 0" where refused
-abbrev pub writeRefusedBy : Written → ℕ
-writeRefusedBy (Refused r) = r
-writeRefusedBy (Length n) = 0
-
+-- the length that an answer gives, "counts are 0" where refused
 abbrev pub writtenLength : Written → ℕ
 writtenLength (Refused r) = 0
 writtenLength (Length n) = n
