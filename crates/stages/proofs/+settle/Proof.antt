@@ -3,6 +3,7 @@ use Rattle.stages.proofs.Coming.{settling}
 use Rattle.stages.proofs.Coming.{settle-less}
 use Rattle.stages.proofs.Coming.{settle-on}
 use Rattle.operator.specs.Operator.{rulesFrom}
+use Rattle.stages.specs.Run.{latestRest}
 use native.Mathlib.Omega.{arith}
 use Prim.Native.Nat.{ℕ, _<_, _-_}
 use borrow.Fn.Kinds.{In}
@@ -16,7 +17,7 @@ use Rattle.stages.proofs.+settle.{statement}
 use Rattle.stages.proofs.+settle.Tie.{close}
 
 abbrev μ-settle : Measures 3 settle-kinds.ps ℕ
-μ-settle κs a = 65 - a .1 .1 .1 .1 .1 .1 .0
+μ-settle κs a = latestRest - a .1 .1 .1 .1 .1 .1 .0
 
 abbrev settle-at : ℕ → In 3 settle-kinds.ps
 settle-at t = and 3 settle-kinds.ps (is 3 settle-kinds.ps μ-settle t) settle.Pre
