@@ -10,7 +10,7 @@ use Rattle.sets.specs.Lists.{anyOf, below}
 use Rattle.sets.specs.Least.{least}
 use Rattle.operator.specs.Operator.{WordRule, stage}
 
--- "a stage equal to its successor is reached at stage W + 1 at the latest", and W is at most 64
+-- the latest stage at which a run rests: "a stage equal to its successor is reached at stage W + 1 at the latest", and W is at most 64
 abbrev pub latestRest : ℕ
 latestRest = 65
 
