@@ -2,7 +2,7 @@
 use mathlib.Core.Path.{_≡_, sym, subst}
 use mathlib.Core.Bool.{true}
 use mathlib.Core.List.{List}
-use Prim.Native.Nat.{ℕ, suc, _+_, _≤_}
+use Prim.Native.Nat.{ℕ, _+_, _≤_}
 use native.Mathlib.Omega.{arith}
 use Rattle.sets.specs.Lists.{Each}
 use Rattle.program.specs.declared.Program.{Program}
@@ -11,11 +11,11 @@ use Rattle.program.specs.Valid.{valid}
 use Rattle.program.proofs.Validity.{valid-names, valid-below}
 use Rattle.epistemic.proofs.Masks.{taggedFrom, small-tagged}
 use Rattle.epistemic.proofs.WordMain.{program, rest}
-use Rattle.operator.specs.Operator.{WordRule, stage}
+use Rattle.operator.specs.Operator.{WordRule}
 use Rattle.stages.specs.Run.{ending, EndsRun}
 use Rattle.stages.proofs.Bridge.{stage-same}
 use Rattle.stages.proofs.Run.{run-ends}
-use Rattle.stages.proofs.Minimal.{wordRule, alike-words}
+use Rattle.stages.proofs.Minimal.{alike-words}
 use Rattle.transform.specs.Transform.{epistemic, members}
 use Rattle.transform.proofs.Theory.{transformed, vocabularySize, epistemic-is, members-are}
 use Rattle.fixpoint.specs.Answer.{literalsOf, vocabulary, transformOf}

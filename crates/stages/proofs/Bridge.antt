@@ -18,6 +18,7 @@ use Rattle.rising.proofs.Literals.{lit-out, put-put}
 use Rattle.rising.proofs.RisingSets.{in-addAll, addAll-in, addAll-rising}
 use Rattle.rising.specs.Literals.{literals}
 use Rattle.operator.specs.Operator.{WordRule, choices, next, stage}
+use Rattle.stages.specs.Run.{latestRest}
 
 -- a clause as two words says what a rule of the theory says
 pub record Like (c : WordRule) (r : Rule ℕ) : Type 0 where
@@ -116,7 +117,7 @@ module _ (Q : List WordRule) (R : List (Rule ℕ)) (a : Alike Q R) where
       (λ v m. stage-of (suc k) v (h v .0 (stage-to k v m)))
       (λ v m. stage-of k v (h v .1 (stage-to (suc k) v m)))
 
--- ---- stage 65 equals its successor, whatever the clauses: heads of words lie below 64
+-- ---- the heads of words lie below 64, so that stage 65 equals its successor, whatever the clauses
 
 below-pow : (n : ℕ) → n < 2 ^ n
 below-pow zero = omega arith
@@ -134,5 +135,5 @@ heads-below : (Q : List WordRule) → Each (λ (r : Rule ℕ). Each (λ x. x < 6
 unfolding ruleOf
 heads-below Q r m x i = let s = map-in ruleOf r Q m in lit-out (s .0 .head) x (subst (λ (z : Rule ℕ). x ∈ z .head) (s .2) i) .0
 
-pub stage-rests : (Q : List WordRule) → stage Q 65 ≡ stage Q 66
-stage-rests Q = stage-same Q (map ruleOf Q) (alike-rules Q) 65 (words-rest (map ruleOf Q) 64 (heads-below Q) 65 (omega arith))
+pub stage-rests : (Q : List WordRule) → stage Q latestRest ≡ stage Q (suc latestRest)
+stage-rests Q = stage-same Q (map ruleOf Q) (alike-rules Q) latestRest (words-rest (map ruleOf Q) 64 (heads-below Q) latestRest (omega arith))

@@ -17,7 +17,7 @@ use Rattle.stages.proofs.Run.{same-eq, reached-next, reached-less, uncr
 use Rattle.rising.proofs.Slices.{size-fits, size-over}
 use Rattle.rising.specs.Growing.{Grown}
 use Rattle.operator.specs.Operator.{WordRule, next, stage}
-use Rattle.stages.specs.Run.{Reached, crowded, finalStage, Settled, Settling}
+use Rattle.stages.specs.Run.{latestRest, Reached, crowded, finalStage, Settled, Settling}
 use Rattle.rising.specs.Slices.{size}
 
 -- ---- two prefixes
@@ -129,7 +129,7 @@ module _ (Q : List WordRule) (a : List ℕ) (members : ℕ) (b : List ℕ) (k : 
         reached = subst (λ (r : ℕ). Reached Q r (k + 1)) (sym (g .long ∙ s .long)) (reached-next Q (length a) k (s .reached) same (f .0));
       }
 
-  pub settle-less : (t : Bool) → n ≤ length out → t ≡ same (take members a) (take n out) → t ≡ false → k < 65
+  pub settle-less : (t : Bool) → n ≤ length out → t ≡ same (take members a) (take n out) → t ≡ false → k < latestRest
   settle-less t h e y =
       let f = fewer h in
       reached-less Q (length a) k (s .reached) (ap₂ same (sym (s .is)) (sym (f .1)) ∙ sym e ∙ y)

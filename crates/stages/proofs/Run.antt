@@ -17,7 +17,7 @@ use Rattle.lists.specs.Bytes.{same}
 use Rattle.lists.proofs.Loops.{same-self, same-true}
 use Rattle.stages.proofs.Bridge.{stage-rests}
 use Rattle.operator.specs.Operator.{WordRule, stage}
-use Rattle.stages.specs.Run.{resting, ending, EndsRun, finalStage, crowded, Reached}
+use Rattle.stages.specs.Run.{latestRest, resting, ending, EndsRun, finalStage, crowded, Reached}
 
 pub same-eq : (a b : List ℕ) → T (same a b) → a ≡ b
 same-eq a b t = same-true a b (T-true (same a b) t)
@@ -35,16 +35,16 @@ module _ (Q : List WordRule) where
 
   pub rests-at : stage Q (resting Q) ≡ stage Q (suc (resting Q))
   unfolding resting
-  rests-at = go (decLt (least still 65) 65)
+  rests-at = go (decLt (least still latestRest) latestRest)
     where
-      go : Dec (least still 65 < 65) → stage Q (least still 65) ≡ stage Q (suc (least still 65))
-      go (yes h) = same-true _ _ (least-hit still 65 h)
-      go (no h) = let e : 65 ≡ least still 65 = omega (arith, h, least-le still 65) in subst (λ (n : ℕ). stage Q n ≡ stage Q (suc n)) e (stage-rests Q)
+      go : Dec (least still latestRest < latestRest) → stage Q (least still latestRest) ≡ stage Q (suc (least still latestRest))
+      go (yes h) = same-true _ _ (least-hit still latestRest h)
+      go (no h) = let e : latestRest ≡ least still latestRest = omega (arith, h, least-le still latestRest) in subst (λ (n : ℕ). stage Q n ≡ stage Q (suc n)) e (stage-rests Q)
 
   -- no earlier stage equals its successor
   moves-before : (k : ℕ) → k < resting Q → stage Q k ≡ stage Q (suc k) → ⊥
   unfolding resting
-  moves-before k h e = clash (still k) (ap (same (stage Q k)) (sym e) ∙ same-self (stage Q k)) (least-miss still 65 k h)
+  moves-before k h e = clash (still k) (ap (same (stage Q k)) (sym e) ∙ same-self (stage Q k)) (least-miss still latestRest k h)
 
   -- a stage that equals its successor is not before it
   rests-by : (k : ℕ) → stage Q k ≡ stage Q (suc k) → resting Q ≤ k
@@ -73,15 +73,15 @@ unfolding crowded stage
 crowded-start Q room h = some-hit (λ k. ltb room (length (stage Q k))) (ending Q) 0 (omega arith) (lt-ltb room 1 (omega arith))
 
 module _ (Q : List WordRule) (room k : ℕ) (r : Reached Q room k) where
-  unmoved : same (stage Q k) (stage Q (suc k)) ≡ false → k < 65
-  unmoved f = go (decLt k 65)
+  unmoved : same (stage Q k) (stage Q (suc k)) ≡ false → k < latestRest
+  unmoved f = go (decLt k latestRest)
     where
-      go : Dec (k < 65) → k < 65
+      go : Dec (k < latestRest) → k < latestRest
       go (yes h) = h
       go (no h) =
-          let e : k ≡ 65 = omega (arith, h, r .most) in
-          let t : same (stage Q 65) (stage Q 66) ≡ true = ap (λ (l : List ℕ). same (stage Q 65) l) (sym (stage-rests Q)) ∙ same-self (stage Q 65) in
-          let u : same (stage Q 65) (stage Q 66) ≡ false = subst (λ (n : ℕ). same (stage Q n) (stage Q (suc n)) ≡ false) e f in
+          let e : k ≡ latestRest = omega (arith, h, r .most) in
+          let t : same (stage Q latestRest) (stage Q (suc latestRest)) ≡ true = ap (λ (l : List ℕ). same (stage Q latestRest) l) (sym (stage-rests Q)) ∙ same-self (stage Q latestRest) in
+          let u : same (stage Q latestRest) (stage Q (suc latestRest)) ≡ false = subst (λ (n : ℕ). same (stage Q n) (stage Q (suc n)) ≡ false) e f in
           absurd (let z : _≡_ {A = ℕ} 0 1 = cc in omega arith)
 
   -- the stage has not come to rest: on to the next
@@ -100,17 +100,17 @@ module _ (Q : List WordRule) (room k : ℕ) (r : Reached Q room k) where
       wide i (yes p) l = r .roomy i p
       wide i (no n) l = let e : suc k ≡ i = omega (arith, n) in subst (λ (m : ℕ). length (stage Q m) ≤ room) e h
 
-  pub reached-less : same (stage Q k) (stage Q (suc k)) ≡ false → k < 65
+  pub reached-less : same (stage Q k) (stage Q (suc k)) ≡ false → k < latestRest
   reached-less f = unmoved f
 
   -- it has
   pub rests : same (stage Q k) (stage Q (suc k)) ≡ true → resting Q ≡ k
   unfolding resting
-  rests t = go (decLt k 65)
+  rests t = go (decLt k latestRest)
     where
-      go : Dec (k < 65) → least (λ i. same (stage Q i) (stage Q (suc i))) 65 ≡ k
-      go (yes h) = least-is (λ i. same (stage Q i) (stage Q (suc i))) 65 k h t (λ j b. r .early j b)
-      go (no h) = least-none (λ i. same (stage Q i) (stage Q (suc i))) 65 (λ i b. r .early i (omega (arith, h))) ∙ omega (arith, h, r .most)
+      go : Dec (k < latestRest) → least (λ i. same (stage Q i) (stage Q (suc i))) latestRest ≡ k
+      go (yes h) = least-is (λ i. same (stage Q i) (stage Q (suc i))) latestRest k h t (λ j b. r .early j b)
+      go (no h) = least-none (λ i. same (stage Q i) (stage Q (suc i))) latestRest (λ i b. r .early i (omega (arith, h))) ∙ omega (arith, h, r .most)
 
   pub uncrowded : same (stage Q k) (stage Q (suc k)) ≡ true → length (stage Q (suc k)) ≤ room → crowded Q room ≡ false
   unfolding crowded ending
@@ -130,4 +130,4 @@ module _ (Q : List WordRule) (room k : ℕ) (r : Reached Q room k) where
   crowds h = some-hit (λ i. ltb room (length (stage Q i))) (suc (resting Q)) (suc k) (omega (arith, late)) (lt-ltb room (length (stage Q (suc k))) h)
     where
       late : k ≤ resting Q
-      late = least-late (λ i. same (stage Q i) (stage Q (suc i))) 65 k (r .most) (λ j b. r .early j b)
+      late = least-late (λ i. same (stage Q i) (stage Q (suc i))) latestRest k (r .most) (λ j b. r .early j b)

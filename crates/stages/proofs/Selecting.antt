@@ -132,7 +132,8 @@ module _ (Q : List WordRule) (room : ℕ) where
       go false c = absurd (omega (arith, s .fits c))
 
   pub minimals-are : (a b kept out : List ℕ) (r k n : ℕ) → Settled Q room r a b → r ≤ room
-      → Sifted (sift (satisfies Q) (take r a)) r kept k → length kept ≡ length b → Sifted (sift (leastIn (take k kept)) (take k kept)) k out n → length out ≡ length a → Minimals Q room n out kept
+      → Sifted (sift (satisfies Q) (take r a)) r kept k → length kept ≡ length b
+      → Sifted (sift (leastIn (take k kept)) (take k kept)) k out n → length out ≡ length a → Minimals Q room n out kept
   unfolding minimalModels minimals
   minimals-are a b kept out r k n s h p l q m = go (crowded Q room) refl
     where

@@ -10,9 +10,13 @@ use Rattle.sets.specs.Lists.{anyOf, below}
 use Rattle.sets.specs.Least.{least}
 use Rattle.operator.specs.Operator.{WordRule, stage}
 
--- The first stage that its successor equals: "a stage equal to its successor is reached at stage W + 1 at the latest", and W is at most 64.
+-- the latest stage at which a run rests: "a stage equal to its successor is reached at stage W + 1 at the latest", and W is at most 64
+abbrev pub latestRest : ℕ
+latestRest = 65
+
+-- the first stage that its successor equals
 unfoldable pub resting : List WordRule → ℕ
-resting Q = least (λ k. same (stage Q k) (stage Q (suc k))) 65
+resting Q = least (λ k. same (stage Q k) (stage Q (suc k))) latestRest
 
 -- "The run ends at the first stage equal to the one before".
 unfoldable pub ending : List WordRule → ℕ
@@ -39,7 +43,7 @@ crowded Q room = anyOf (λ k. ltb room (length (stage Q k))) (below (suc (ending
 -- ---- a run that has come to stage k
 
 pub record Reached (Q : List WordRule) (room k : ℕ) : Type 0 where
-  pub most : k ≤ 65
+  pub most : k ≤ latestRest
   pub early : (i : ℕ) → i < k → same (stage Q i) (stage Q (suc i)) ≡ false
   pub roomy : (i : ℕ) → i ≤ k → length (stage Q i) ≤ room
 

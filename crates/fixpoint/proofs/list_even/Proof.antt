@@ -14,10 +14,24 @@ returns : tie.Need-returns
 returns c = refused-crowded _ _ _ _ _ _ _ _ (c .before .before .before .before .before .before .minimal-models .ensures) (c .before .if1 .taken) (c .refuse .ensures)
 
 write-models-requires : tie.Need-write-models-requires
-write-models-requires c κs = let k = c .before .before .before .before .collect in let mm = c .before .before .before .before .before .before .before .before .before .before .before .before .minimal-models in let a = c .before .before .before .before .before .before .before .before .before .before .before .before .before .before .before .before .before .before .before .before .args in (omega (arith, k .ensures .1, c .before .before .before .before .before .before .before .if1 .left), small-parts (a .m) (sift (canonical (a .m)) (take (mm .result) (mm .last .1 .1 .1 .0))) _ _ (c .before .before .before .before .before .before .before .before .before .before .before .before .before .before .before .before .before .before .before .before .pre .2) (k .ensures .0))
+write-models-requires c κs =
+    let k = c .before .before .before .before in
+    let fits = k .before .before .before in
+    let m = fits .before .before .before .before .before in
+    let s = m .before .before .before .before .before .before .before .before in
+    let a = s .args in
+    let kept = k .collect .ensures in
+    let first = m .minimal-models .last .1 .1 .1 .0 in
+    (omega (arith, kept .1, fits .if1 .left), small-parts (a .m) (sift (canonical (a .m)) (take (m .minimal-models .result) first)) _ _ (s .pre .2) (kept .0))
 
 returns-2 : tie.Need-returns-2
-returns-2 c = let w = c .before .before .before .write-models in answered _ _ _ _ _ _ _ _ _ _ _ (c .before .before .before .before .before .before .before .before .before .before .before .before .before .before .before .before .minimal-models .ensures) (c .before .before .before .before .before .before .before .before .before .before .before .if1 .left) (c .before .before .before .before .before .before .before .before .collect .ensures .0) (w .ensures .1) (c .answer .ensures ∙ ap (listed _) (w .kept .1 .1 .0))
+returns-2 c =
+    let w = c .before .before .before in
+    let k = w .before .before .before .before .before in
+    let fits = k .before .before .before in
+    let m = fits .before .before .before .before .before in
+    let says = c .answer .ensures ∙ ap (listed _) (w .write-models .kept .1 .1 .0) in
+    answered _ _ _ _ _ _ _ _ _ _ _ (m .minimal-models .ensures) (fits .if1 .left) (k .collect .ensures .0) (w .write-models .ensures .1) says
 
 pub list-even-spec : {M : Type 1} → statement M
 list-even-spec = tie.close (tie.spec (λ c. search rules) (λ c. search rules) (λ c. search rules) (λ c. search rules) returns (λ c. search rules) write-models-requires (λ c. search rules) (λ c. search rules) (λ c. search rules) (λ c. search rules) returns-2)

@@ -6,7 +6,7 @@ use Rattle.stages.proofs.minimal_models.Statement.{statement}
 use Rattle.stages.proofs.minimal_models.Tie as tie
 
 same-length : tie.Need-same-length
-same-length c = c .before .before .before .before .minimal-from .kept .1 .1 .1 .0 ∙ length-set (c .before .before .before .before .before .before .before .before .before .before .before .before .args .first .now) 0 0
+same-length c = c .before .before .before .before .minimal-from .kept .1 .1 .1 .0 ∙ simp length-set
 
 pub minimal-models-spec : {M : Type 1} → statement M
 minimal-models-spec = tie.close (tie.spec (λ c. search rules) (λ c. search rules) (λ c. search rules) same-length (λ c. search rules) (λ c. search rules))
