@@ -2,13 +2,13 @@
 use mathlib.Core.Path.{_≡_, refl, sym, ap, _∙_, subst}
 use mathlib.Core.Logic.{_↔_, _⊎_, ⊎-elim}
 use mathlib.Core.Bool.{Bool, true, false, not}
-use mathlib.Core.List.{List, [], _∷_, map, _++_}
+use mathlib.Core.List.{List, [], _∷_, map}
 use Prim.Native.Nat.{ℕ, _≤_}
 use native.Mathlib.Omega.{arith}
 use lib.Dec.{eqb, ltb}
 use lib.ListN.{length, take, drop}
 use lib.Seq.{take-at}
-use borrow.Author.Tests.{le-ltb, ltb-false, eq-eqb, eqb-true}
+use borrow.Author.Tests.{le-ltb, eqb-true}
 use Rattle.sets.specs.Lists.{tabulate}
 use Rattle.sets.specs.Words.{bit}
 use Rattle.sets.proofs.Tests.{dec}
@@ -18,11 +18,10 @@ use Rattle.program.specs.Clauses.{rows, clauses}
 use Rattle.program.specs.Values.{isWord, sumFor}
 use Rattle.program.specs.Valid.{valid, Sized}
 use Rattle.program.specs.Refusals.{lowest}
-use Rattle.text.specs.declared.Verdict.{Verdict}
 use Rattle.text.specs.declared.Verdict.the-variants.{Accepted}
 use Rattle.text.specs.declared.Read.{Read}
 use Rattle.text.specs.declared.Written.{Written}
-use Rattle.text.specs.declared.Written.the-variants.{Length, Refused}
+use Rattle.text.specs.declared.Written.the-variants.{Length}
 use Rattle.text.specs.Lines.{names}
 use Rattle.text.specs.Render.{render}
 use Rattle.text.specs.Reading.{refusedBy, readOf}

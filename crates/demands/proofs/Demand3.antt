@@ -1,11 +1,10 @@
 -- Demand 3 of any two runs over one table. Assumes nothing.
-use mathlib.Core.Path.{_≡_, refl, sym, ap, _∙_, subst}
-use mathlib.Core.Bool.{true, false}
+use mathlib.Core.Path.{_≡_, sym, ap, _∙_}
+use mathlib.Core.Bool.{false}
 use mathlib.Core.Logic.{_⊎_, ⊎-elim}
 use mathlib.Core.List.{List, []}
-use Prim.Native.Nat.{ℕ, min}
+use Prim.Native.Nat.{ℕ}
 use native.Mathlib.Omega.{arith}
-use native.Mathlib.Nat.{le-refl}
 use lib.ListN.{length, take}
 use lib.Seq.{take-all}
 use Rattle.sets.specs.Lists.{Rising, Begins}
@@ -19,7 +18,7 @@ use Rattle.search.specs.declared.Outcome.the-variants.{Complete, Refused}
 use Rattle.search.specs.Answer.{listed as searchListed}
 use Rattle.search.proofs.Runs as searches
 use Rattle.fixpoint.specs.Answer.{refused as fixedRefused}
-use Rattle.demands.specs.Demand3.{Run, searched, fixed, lent, outcome, written, exit, listed, allModels, AllModels, BySearch, ByFixpoint, ByRoute, OneRun, TwoRuns, Ran, Demand3}
+use Rattle.demands.specs.Demand3.{Run, searched, fixed, lent, outcome, written, exit, listed, allModels, AllModels, ByRoute, OneRun, TwoRuns, Demand3}
 use Rattle.demands.proofs.Outcomes.{refused-complete}
 use Rattle.demands.proofs.Searching as searching
 use Rattle.demands.proofs.Fixing as fixing

@@ -1,12 +1,12 @@
 -- How a fixpoint ends: refused, full or complete, and what is so of each. Assumes nothing.
-use mathlib.Core.Path.{_≡_, refl, sym, ap, ap₂, _∙_, subst}
-use mathlib.Core.Bool.{Bool, true, false, cond}
-use mathlib.Core.Logic.{_↔_, _⊎_, inl, inr, ⊎-elim}
-use mathlib.Core.List.{List, [], _++_}
+use mathlib.Core.Path.{_≡_, refl, sym, ap, ap₂, _∙_}
+use mathlib.Core.Bool.{Bool, true, false}
+use mathlib.Core.Logic.{_⊎_, inl, inr, ⊎-elim}
+use mathlib.Core.List.{List, _++_}
 use Prim.Native.Nat.{ℕ, suc, _≤_, _<_, min}
 use native.Mathlib.Omega.{arith}
 use native.Mathlib.Nat.{le-refl}
-use lib.Dec.{ltb, leb}
+use lib.Dec.{ltb}
 use lib.ListN.{length, take, drop, length-drop, length-append, drop-of-length-le}
 use lib.Seq.{take-at, drop-at, take-all, length-take-le}
 use borrow.Author.Tests.{ltb-true, ltb-false, lt-ltb, le-leb, lt-leb}
@@ -19,13 +19,13 @@ use Rattle.program.specs.Refusals.{lowest}
 use Rattle.operator.specs.Operator.{stage}
 use Rattle.stages.specs.Run.{ending, crowded}
 use Rattle.search.specs.declared.Outcome.{Outcome}
-use Rattle.search.specs.declared.Outcome.the-variants.{Complete, Full, Spent, Refused}
+use Rattle.search.specs.declared.Outcome.the-variants.{Complete, Full, Refused}
 use Rattle.fixpoint.specs.declared.FixpointAnswer.{FixpointAnswer}
 use Rattle.fixpoint.specs.Overwriting.{overwrite}
 use Rattle.fixpoint.specs.Answer.{vocabulary, transformOf, roomOf, found, refusal, listed, refused, answerOf, exitOf}
 use Rattle.fixpoint.proofs.Lists.{found-models}
 use Rattle.fixpoint.proofs.Ending.{ends-run}
-use Rattle.demands.specs.Demand3.{fixed, outcome, written, allModels, Crowded, ByFixpoint}
+use Rattle.demands.specs.Demand3.{outcome, written, allModels, Crowded, ByFixpoint}
 use Rattle.demands.proofs.Outcomes.{full-spent, full-complete, spent-complete, refused-full, refused-spent, refused-complete, one-number}
 
 -- ---- the room

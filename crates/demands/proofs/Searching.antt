@@ -1,25 +1,24 @@
 -- How a search of an accepted table ends: full, spent or complete, and what is so of each. Assumes nothing.
-use mathlib.Core.Path.{_≡_, refl, sym, ap, _∙_, subst}
+use mathlib.Core.Path.{_≡_, refl, sym, ap, _∙_}
 use mathlib.Core.Bool.{Bool, true, false, cond}
-use mathlib.Core.Logic.{_↔_, _⊎_, ⊎-elim}
-use mathlib.Core.List.{List, []}
-use Prim.Native.Nat.{ℕ, _≤_, _<_, min}
+use mathlib.Core.Logic.{_⊎_, ⊎-elim}
+use mathlib.Core.List.{List}
+use Prim.Native.Nat.{ℕ, _≤_, _<_}
 use native.Mathlib.Omega.{arith}
 use lib.Dec.{ltb}
-use lib.ListN.{length, take, drop}
+use lib.ListN.{length, take}
 use lib.Seq.{take-all}
 use borrow.Author.Tests.{ltb-true, ltb-false}
-use Rattle.sets.specs.Least.{least}
-use Rattle.sets.proofs.Tests.{dec, clash, lt-or-ge}
-use Rattle.sets.proofs.Least.{least-le, least-hit, least-miss}
+use Rattle.sets.proofs.Tests.{dec, lt-or-ge}
+use Rattle.sets.proofs.Least.{least-hit, least-miss}
 use Rattle.program.specs.declared.Program.{Program}
 use Rattle.program.specs.Valid.{valid}
-use Rattle.search.specs.declared.Outcome.the-variants.{Complete, Full, Spent, Refused}
+use Rattle.search.specs.declared.Outcome.the-variants.{Complete, Full, Spent}
 use Rattle.search.specs.declared.SearchAnswer.{SearchAnswer}
 use Rattle.search.specs.Tree.{Node, hits}
 use Rattle.search.specs.Answer.{answer, nodesOf, leafOf, overfull, fullAt, runAnswer, answerOf, exitOf, listed}
 use Rattle.search.proofs.Runs as runs
-use Rattle.demands.specs.Demand3.{searched, outcome, written, allModels, leavesIn, nodeCount, BySearch}
+use Rattle.demands.specs.Demand3.{outcome, written, allModels, leavesIn, nodeCount, BySearch}
 use Rattle.demands.proofs.Outcomes.{full-spent, full-complete, spent-complete, refused-full, refused-spent, refused-complete}
 
 -- ---- the node at which one p-stable leaf too many has been visited

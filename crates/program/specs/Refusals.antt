@@ -3,7 +3,7 @@ use mathlib.Core.Path.{_≡_}
 use mathlib.Core.Bool.{Bool, true, cond}
 use mathlib.Core.List.{List, [], _∷_}
 use Prim.Native.Nat.{ℕ, _≤_}
-use Rattle.sets.specs.Lists.{_∈_, Some}
+use Rattle.sets.specs.Lists.{Some}
 
 -- "Of several that apply, the lowest is given": the first number whose test holds, 0 for none.
 unfoldable pub lowest : List (ℕ × Bool) → ℕ

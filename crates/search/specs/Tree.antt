@@ -1,5 +1,4 @@
 -- The tree of a search: nodes, dead nodes, the nodes in visiting order, the p-stable leaves among them. Assumes nothing.
-use mathlib.Core.Path.{_≡_}
 use mathlib.Core.Bool.{Bool, cond, not, _&&_}
 use mathlib.Core.List.{List, [], _∷_, _++_}
 use Prim.Native.Nat.{ℕ, zero, suc, _+_, _*_, _%_, _^_}
