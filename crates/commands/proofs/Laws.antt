@@ -24,7 +24,7 @@ use Rattle.text.specs.declared.Read.{Read}
 use Rattle.text.specs.declared.Verdict.the-variants as verdict
 use Rattle.text.specs.declared.Written.{Written}
 use Rattle.text.specs.declared.Written.the-variants as written
-use Rattle.text.proofs.RoundTrip.{refused-by, written-back}
+use Rattle.text.proofs.RoundTrip.{cleared, written-back}
 use Rattle.stable.specs.declared.Checked.{Checked}
 use Rattle.stable.specs.Check.{Checks}
 use Rattle.search.specs.declared.SearchAnswer.{SearchAnswer}
@@ -169,9 +169,9 @@ text-short b z = ⊎-elim (λ t. absurd (let e : refusal b ≡ 1 = rw t in omega
 
 pub render-short : (b : List ℕ) (d : Read) → d ≡ reading.readOf b → d .verdict ≡ verdict.Accepted → length (render (d .program)) ≤ 4096
 render-short b d e t =
-    let a : reading.refusedBy (reading.readOf b .verdict) ≡ 0 = ap (λ (x : Read). reading.refusedBy (x .verdict)) (sym e) ∙ ap reading.refusedBy t in
+    let a : reading.IsAccepted b = ap (λ (x : Read). x .verdict) (sym e) ∙ t in
     let q : render (d .program) ≡ b = ap (λ (x : Read). render (x .program)) e ∙ written-back b a in
-    rw q (text-short b (sym (refused-by b) ∙ a))
+    rw q (text-short b (cleared b a))
 
 module _ (p : Program) (xs : List ℕ) (v : valid p ≡ true) (h : length (render p) ≤ length xs) (w : Written) (ys : List ℕ) (s : writing.Writes p xs w ys) where
   taken : writing.writeRefusal p xs ≡ 0

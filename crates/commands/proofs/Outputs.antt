@@ -10,7 +10,7 @@ use Rattle.program.specs.declared.Program.{Program}
 use Rattle.text.specs.Refusals.{refusal}
 use Rattle.text.specs.Reading.{readOf, programOf, IsAccepted}
 use Rattle.text.specs.Render.{render}
-use Rattle.text.proofs.RoundTrip.{refused-by, written-back}
+use Rattle.text.proofs.RoundTrip.{cleared, written-back}
 use Rattle.reporting.specs.Lines.{refusedLine}
 use Rattle.reporting.specs.Printing.{unlessRefused, printed}
 use Rattle.reporting.specs.Report.{allowance, reportOf}
@@ -25,7 +25,7 @@ search-is-report b = refl
 pub write-is-book : (b : List ℕ) → IsAccepted b → writeOutput b ≡ b
 unfolding writeOutput printed unlessRefused readOf
 write-is-book b a =
-    let z : refusal b ≡ 0 = sym (refused-by b) ∙ a in
+    let z : refusal b ≡ 0 = cleared b a in
     let q : readOf b .program ≡ programOf b = rw z in
     rw z (ap render (sym q) ∙ written-back b a)
 

@@ -37,7 +37,7 @@ use Rattle.search.specs.Answer.{answer, leafOf, nodesOf, overfull, fullAt, runA
 use Rattle.search.specs.Answer as searching
 use Rattle.fixpoint.specs.Answer.{roomOf}
 use Rattle.fixpoint.specs.Answer as fixing
-use Rattle.demands.specs.Demand1.{Lent, Told, read, write, check, summarize, search, fixpoint, told, Answers, numbersOf, ofWritten, ofChecked, ofOutcome, Demand1}
+use Rattle.demands.specs.Demand1.{Lent, Told, Call, read, write, check, summarize, search, fixpoint, told, Answers, numbersOf, ofWritten, ofChecked, ofOutcome, Demand1}
 
 not-both : {A : Type 0} {v : Verdict} {n : ℕ} → v ≡ Accepted → v ≡ Refused n → A
 not-both a b = absurd (let z : _≡_ {A = ℕ} 0 1 = cc in omega arith)
@@ -174,40 +174,43 @@ module _ (p : Program) (l w v : List ℕ) where
   unfolding fixing.answerOf fixing.exitOf
   fix-other d = (rw (ne-eqb (fixing.refusal p (roomOf w v)) 0 d), rw (ne-eqb (fixing.refusal p (roomOf w v)) 0 d))
 
--- Demand 1.
-pub demand-1 : Demand1
+every-call : (c : Call) → told c .promised → Answers (told c)
 unfolding told rises reading.refusal writeRefusal checking.refusal summing.refusal searching.refusal fixing.refusal fixing.refused summaryWith refusedSummary
-demand-1 (read b r) e = answers (told (read b r)) refl
+every-call (read b r) e = answers (told (read b r)) refl
     (λ z. ap (λ x. x .verdict) (e ∙ trip.taken b z))
     (λ d. ap (λ x. x .verdict) (e ∙ trip.refused b d))
     (λ d x m. absurd m)
     (λ d. subst (λ x. Zeros (numbersOf (x .program))) (sym (e ∙ trip.refused b d)) zero-table)
     (λ x m. absurd m)
-demand-1 (write p o r) e = answers (told (write p o r)) refl
+every-call (write p o r) e = answers (told (write p o r)) refl
     (λ z. ap ofWritten (e .answer ∙ writings.accepted p (o .entry) z .0))
     (λ d. ap ofWritten (e .answer ∙ writings.refused p (o .entry) d .0))
     (λ d. kept-one o (e .slice ∙ writings.refused p (o .entry) d .1))
     (λ d. zero-more _ [] (ap writtenLength (e .answer ∙ writings.refused p (o .entry) d .0)) (λ x m. absurd m))
     (λ x m. absurd m)
-demand-1 (check p w r) e = answers (told (check p w r)) refl
+every-call (check p w r) e = answers (told (check p w r)) refl
     (λ z. ap ofChecked (e .answer) ∙ check-zero p w z)
     (λ d. ap ofChecked (e .answer) ∙ check-other p w d)
     (λ d x m. absurd m) (λ d x m. absurd m) (λ x m. absurd m)
-demand-1 (summarize p ws r) e = answers (told (summarize p ws r)) refl
+every-call (summarize p ws r) e = answers (told (summarize p ws r)) refl
     (λ z. ap (λ x. x .verdict) (e ∙ meaning.accepted p ws z))
     (λ d. ap (λ x. x .verdict) (e ∙ meaning.refused p ws d))
     (λ d x m. absurd m)
     (λ d. subst (λ x. Zeros (x .occurring ++ map oneIf (x .settled))) (sym (e ∙ meaning.refused p ws d)) (zeros-append (replicate 12 0) (map oneIf (replicate 12 false)) (zeros 12) (zeros 12)))
     (λ x m. absurd m)
-demand-1 (search p A l r) e = answers (told (search p A l r)) refl
+every-call (search p A l r) e = answers (told (search p A l r)) refl
     (λ z. ap (λ x. ofOutcome (x .outcome)) (e .says) ∙ search-zero p A (l .entry) z)
     (λ d. ap (λ x. ofOutcome (x .outcome)) (e .says ∙ search-other p A (l .entry) d .0))
     (λ d. kept-one l (e .lists ∙ search-other p A (l .entry) d .1))
     (λ d. let q = e .says ∙ search-other p A (l .entry) d .0 in zero-more (r .written) (r .visited ∷ []) (ap (λ x. x .written) q) (zero-more (r .visited) [] (ap (λ x. x .visited) q) (λ x m. absurd m)))
     (λ x m. absurd m)
-demand-1 (fixpoint p l w v r) e = answers (told (fixpoint p l w v r)) refl
+every-call (fixpoint p l w v r) e = answers (told (fixpoint p l w v r)) refl
     (λ z. ap (λ x. ofOutcome (x .outcome)) (e .says) ∙ fix-zero p (l .entry) (w .entry) (v .entry) z)
     (λ d. ap (λ x. ofOutcome (x .outcome)) (e .says ∙ fix-other p (l .entry) (w .entry) (v .entry) d .0))
     (λ d. kept-one l (e .lists ∙ fix-other p (l .entry) (w .entry) (v .entry) d .1))
     (λ d. zero-more (r .written) [] (ap (λ x. x .written) (e .says ∙ fix-other p (l .entry) (w .entry) (v .entry) d .0)) (λ x m. absurd m))
     (long-two w v (e .first-length) (e .second-length))
+
+-- Demand 1.
+pub demand-1 : Demand1
+demand-1 = record { answers = every-call; nine = trip.valid-exactly }

@@ -24,7 +24,7 @@ use Rattle.text.specs.declared.Written.{Written}
 use Rattle.text.specs.declared.Written.the-variants.{Length}
 use Rattle.text.specs.Lines.{names}
 use Rattle.text.specs.Render.{render}
-use Rattle.text.specs.Reading.{refusedBy, readOf}
+use Rattle.text.specs.Reading.{readOf, IsAccepted}
 use Rattle.text.specs.Writing.{Writes, writeRefusal}
 use Rattle.text.specs.Writing as writing
 use Rattle.text.proofs.RoundTrip as trip
@@ -38,10 +38,10 @@ use Rattle.stable.proofs.Answers as answers
 use Rattle.demands.specs.Demand2.{ReadsExactly, WritesBack, Demand2}
 
 -- ---- reading
-is-accepted : (b : List ℕ) (r : Read) → r ≡ readOf b → r .verdict ≡ Accepted → refusedBy (readOf b .verdict) ≡ 0
-is-accepted b r e a = ap (λ (x : Read). refusedBy (x .verdict)) (sym e) ∙ ap refusedBy a
+is-accepted : (b : List ℕ) (r : Read) → r ≡ readOf b → r .verdict ≡ Accepted → IsAccepted b
+is-accepted b r e a = ap (λ (x : Read). x .verdict) (sym e) ∙ a
 
-exactly : (b : List ℕ) → refusedBy (readOf b .verdict) ≡ 0 → ReadsExactly b (readOf b .program)
+exactly : (b : List ℕ) → IsAccepted b → ReadsExactly b (readOf b .program)
 unfolding names
 exactly b a = record {
   names-read = trip.names-read b a;
@@ -49,24 +49,17 @@ exactly b a = record {
   values-read = trip.values-read b a ∙ ap (λ (ns : List (List ℕ)). map (λ c. tabulate (sumFor c) (length ns)) (rows (readOf b .program))) (sym (trip.names-read b a));
 }
 
--- what is read is a table that is accepted
-read-valid : (b : List ℕ) → refusedBy (readOf b .verdict) ≡ 0 → valid (readOf b .program) ≡ true
-read-valid b a =
-    let w = trip.accepted-exactly b .0 a in
-    let is : readOf b .program ≡ w .0 = ap (λ (x : List ℕ). readOf x .program) (sym (w .3)) ∙ ap (λ (r : Read). r .program) (trip.read-back (w .0) (w .1) (w .2)) in
-    ap valid is ∙ w .2
-
 -- ---- writing
 -- a table that the reader gave, in a slice with room for its text, is not refused
 no-refusal : (p : Program) (out : List ℕ) → valid p ≡ true → length (render p) ≤ length out → writeRefusal p out ≡ 0
 unfolding writeRefusal lowest
 no-refusal p out v h = rw (v, le-ltb (length out) (length (render p)) h)
 
-back : (b : List ℕ) → refusedBy (readOf b .verdict) ≡ 0 → (out : List ℕ) (a : Written) (exit : List ℕ) → Writes (readOf b .program) out a exit → length b ≤ length out → WritesBack b out a exit
+back : (b : List ℕ) → IsAccepted b → (out : List ℕ) (a : Written) (exit : List ℕ) → Writes (readOf b .program) out a exit → length b ≤ length out → WritesBack b out a exit
 back b z out a exit w h =
     let p = readOf b .program in
     let same : render p ≡ b = trip.written-back b z in
-    let t = writings.accepted p out (no-refusal p out (read-valid b z) (rw same h)) in
+    let t = writings.accepted p out (no-refusal p out (trip.read-valid b z) (rw same h)) in
     record { length-told = w .answer ∙ t .0 ∙ ap (λ (x : List ℕ). Length (length x)) same; bytes = w .slice ∙ t .1 ∙ ap (λ (x : List ℕ). over x out) same }
 
 -- what was written has been taken

@@ -1,5 +1,5 @@
 -- Demand 3 of any two runs over one table. Assumes nothing.
-use mathlib.Core.Path.{_≡_, sym, ap, _∙_}
+use mathlib.Core.Path.{_≡_, refl, sym, ap, _∙_}
 use mathlib.Core.Bool.{false}
 use mathlib.Core.Logic.{_⊎_, ⊎-elim}
 use mathlib.Core.List.{List, []}
@@ -18,7 +18,7 @@ use Rattle.search.specs.declared.Outcome.the-variants.{Complete, Refused}
 use Rattle.search.specs.Answer.{listed as searchListed}
 use Rattle.search.proofs.Runs as searches
 use Rattle.fixpoint.specs.Answer.{refused as fixedRefused}
-use Rattle.demands.specs.Demand3.{Run, searched, fixed, lent, outcome, written, exit, listed, allModels, AllModels, ByRoute, OneRun, TwoRuns, Demand3}
+use Rattle.demands.specs.Demand3.{Run, searched, fixed, lent, outcome, written, exit, visited, listed, allModels, AllModels, ByRoute, OneRun, TwoRuns, Demand3}
 use Rattle.demands.proofs.Outcomes.{refused-complete}
 use Rattle.demands.proofs.Searching as searching
 use Rattle.demands.proofs.Fixing as fixing
@@ -36,21 +36,37 @@ rises p r e n = begins-rising (listed p r) (allModels p) (begins p r e n) (all-m
 
 -- ---- a run by search
 module _ (p : Program) (A : ℕ) (l : List ℕ) where
+  search-nine : valid p ≡ false → outcome p (searched A l) ≡ Refused 9
+  unfolding outcome
+  search-nine f = ap (λ a. a .outcome) (searches.refused p A l f .0)
+
   search-lowest : listed p (searched A l) ≡ take (written p (searched A l)) (allModels p)
   unfolding listed written exit searchListed Begins
   search-lowest = sym (searches.lists-lowest p A l) ∙ ap (λ (k : ℕ). take k (allModels p)) (searching.counted p A l)
 
+  search-all : outcome p (searched A l) ≡ Complete → listed p (searched A l) ≡ allModels p
+  search-all e = ⊎-elim
+      (λ v.
+      let s = searching.by-search p v A l in
+      let c = s .complete .0 e in
+      search-lowest ∙ take-all (written p (searched A l)) (allModels p) (omega (arith, c .1, s .writes, searching.all-leaves p v A l (c .0))))
+      (λ f. refused-complete (search-nine f) e)
+      (dec (valid p))
+
   search-run : OneRun p (searched A l)
-  unfolding outcome written exit listed lent searchListed ByRoute
+  unfolding outcome written exit listed visited lent searchListed ByRoute
   search-run = record {
     lowest = search-lowest;
     counted = searching.counted p A l;
     rising = rises p (searched A l) search-lowest (searching.counted p A l);
-    complete-all = searches.complete-lists-all p A l;
+    complete-all = search-all;
     behind = searches.keeps-rest p A l;
     places = searches.same-places p A l;
-    nine = (λ e. ⊎-elim (λ v. absurd (searching.by-search p v A l .never-refused 9 e)) (λ f. f) (dec (valid p)), λ f. ap (λ a. a .outcome) (searches.refused p A l f .0));
-    refused = λ n e. ⊎-elim (λ v. absurd (searching.by-search p v A l .never-refused n e)) (λ f. searches.listed-none p A l f) (dec (valid p));
+    nine = (λ e. ⊎-elim (λ v. absurd (searching.by-search p v A l .never-refused 9 e)) (λ f. f) (dec (valid p)), search-nine);
+    refused = λ n e. ⊎-elim
+        (λ v. absurd (searching.by-search p v A l .never-refused n e))
+        (λ f. (searches.listed-none p A l f, ap (λ a. a .visited) (searches.refused p A l f .0)))
+        (dec (valid p));
     by-route = λ v. searching.by-search p v A l;
   }
 
@@ -89,7 +105,7 @@ module _ (p : Program) (l w v : List ℕ) where
       (dec (valid p))
 
   fix-run : OneRun p (fixed l w v)
-  unfolding lent written exit ByRoute
+  unfolding lent written exit visited ByRoute
   fix-run = record {
     lowest = fix-lowest;
     counted = fix-counted;
@@ -98,7 +114,7 @@ module _ (p : Program) (l w v : List ℕ) where
     behind = fixing.leaves-rest (fixing.left p l w v);
     places = fixing.leaves-length (fixing.left p l w v);
     nine = (fix-nine, λ f. nine-is f .0);
-    refused = fix-none;
+    refused = λ n e. (fix-none n e, refl);
     by-route = fixing.by-fixpoint p l w v;
   }
 
@@ -124,7 +140,7 @@ two-runs p r s =
 
 -- Demand 3.
 pub demand-3 : Demand3
-unfolding outcome written exit
+unfolding outcome written exit visited
 demand-3 = record {
   two-runs = two-runs;
   by-search = λ c. (record { outcome-is = ap (λ a. a .outcome) (c .says); written-is = ap (λ a. a .written) (c .says); exit-is = c .lists }, ap (λ a. a .visited) (c .says));

@@ -18,7 +18,7 @@ use Rattle.search.specs.declared.SearchAnswer.{SearchAnswer}
 use Rattle.search.specs.Tree.{Node, hits}
 use Rattle.search.specs.Answer.{answer, nodesOf, leafOf, overfull, fullAt, runAnswer, answerOf, exitOf, listed}
 use Rattle.search.proofs.Runs as runs
-use Rattle.demands.specs.Demand3.{outcome, written, allModels, leavesIn, nodeCount, BySearch}
+use Rattle.demands.specs.Demand3.{outcome, written, visited, allModels, leavesIn, N, BySearch}
 use Rattle.demands.proofs.Outcomes.{full-spent, full-complete, spent-complete, refused-full, refused-spent, refused-complete}
 
 -- ---- the node at which one p-stable leaf too many has been visited
@@ -58,11 +58,11 @@ ended hit xs A L = go (ltb L (length (hits hit (take A xs)))) refl (ltb A (lengt
 
 module _ (p : Program) (v : valid p ≡ true) (A : ℕ) (l : List ℕ) where
   -- an allowance of N reaches every p-stable leaf
-  all-leaves : nodeCount p ≤ A → length (leavesIn p A) ≡ length (allModels p)
+  pub all-leaves : N p ≤ A → length (leavesIn p A) ≡ length (allModels p)
   all-leaves h = ap (λ xs. length (hits (leafOf p) xs)) (take-all A (nodesOf p) h) ∙ ap length (runs.leaves-of p)
 
-  by-way : Ended (length l) (length (leavesIn p A)) A (nodeCount p) (fullAt (leafOf p) (nodesOf p) (length l)) (answerOf p A l) → BySearch p A l
-  unfolding outcome written
+  by-way : Ended (length l) (length (leavesIn p A)) A (N p) (fullAt (leafOf p) (nodesOf p) (length l)) (answerOf p A l) → BySearch p A l
+  unfolding outcome written visited
   by-way (ends-full h q) =
       let o : answerOf p A l .outcome ≡ Full = ap (λ a. a .outcome) q in
       let c : answerOf p A l .visited ≡ fullAt (leafOf p) (nodesOf p) (length l) = ap (λ a. a .visited) q in

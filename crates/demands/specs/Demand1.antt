@@ -3,13 +3,14 @@
 -- That every call ends is no claim here: a function is proved only together with a measure that falls, and nothing else is built. Assumes nothing.
 use mathlib.Core.Path.{_≡_}
 use mathlib.Core.Logic.{_↔_}
-use mathlib.Core.Bool.{Bool}
+use mathlib.Core.Bool.{Bool, true}
 use mathlib.Core.List.{List, [], _∷_, _++_, map}
 use Prim.Native.Nat.{ℕ}
 use lib.ListN.{length}
 use Rattle.sets.specs.Lists.{Each}
 use Rattle.lists.specs.Bytes.{oneIf}
 use Rattle.program.specs.declared.Program.{Program}
+use Rattle.program.specs.Valid.{valid, Sized}
 use Rattle.program.specs.Refusals.{Applies, Lowest}
 use Rattle.text.specs.declared.Verdict.{Verdict}
 use Rattle.text.specs.declared.Verdict.the-variants.{Accepted, Refused}
@@ -35,7 +36,7 @@ use Rattle.fixpoint.specs.declared.FixpointAnswer.{FixpointAnswer}
 use Rattle.fixpoint.specs.Answer.{roomOf, Fixes}
 use Rattle.fixpoint.specs.Answer as fixing
 
--- ---- what is said of a call
+-- ---- what demand 1 looks at in a call
 -- a slice that was lent: what it held when the call was made, and what it held when it returned
 pub record Lent : Type 0 where
   pub entry : List ℕ
@@ -48,7 +49,7 @@ pub record Told : Type 1 where
   pub meets : List (ℕ × Bool)
   -- "A refusal carries its number": whether its answer is a refusal, and by which
   pub verdict : Verdict
-  -- every count, value and entry of a table in its answer
+  -- the numbers that it shows and that a refusal shows as 0: counts, values, the entries of a table
   pub shows : List ℕ
   -- the lists and texts that it may write; the working slices
   pub lent : List Lent
@@ -84,6 +85,7 @@ pub data Call : Type 0 where
   search : Program → (limit : ℕ) (models : Lent) → SearchAnswer → Call
   fixpoint : Program → (models work more : Lent) → FixpointAnswer → Call
 
+-- in this order: the contract, the numbers that are met, the verdict, the numbers that are shown, the slices that may be written, the working slices
 abbrev told-by : Type 0 → List (ℕ × Bool) → Verdict → List ℕ → List Lent → List Lent → Told
 told-by c ts v ns l f = record { promised = c; meets = ts; verdict = v; shows = ns; lent = l; free = f }
 
@@ -111,6 +113,9 @@ pub record Answers (c : Told) : Type 0 where
   -- "What the working slices hold afterwards is free: any words."; each keeps its length
   pub lengths : Each (λ (s : Lent). length (s .exit) ≡ length (s .entry)) (c .free)
 
--- ---- demand 1: every call that meets its contract, as every call is proved to
-abbrev pub Demand1 : Type 0
-Demand1 = (c : Call) → told c .promised → Answers (told c)
+-- ---- demand 1
+pub record Demand1 : Type 0 where
+  -- of every call that meets its contract, as every call is proved to
+  pub answers : (c : Call) → told c .promised → Answers (told c)
+  -- what 9 asks: "A table handed to a later call is none that the reader could give." (`Sized` is what a table's type gives: the lengths of its arrays)
+  pub nine : (p : Program) → Sized p → (valid p ≡ true) ↔ ((b : List ℕ) × (readOf b .verdict ≡ Accepted) × (readOf b .program ≡ p))

@@ -47,7 +47,7 @@ pub record Demand2 : Type 0 where
   -- "and written back gives the same bytes", wherever they have room
   pub writes-back : (b : List ℕ) (r : Read) → r ≡ readOf b → r .verdict ≡ Accepted
       → (out : List ℕ) (a : Written) (exit : List ℕ) → Writes (r .program) out a exit → length b ≤ length out → WritesBack b out a exit
-  -- and what is written is read as the very table
+  -- and what is written is read as the very table (`Sized` is what a table's type gives: the lengths of its arrays)
   pub reads-back : (p : Program) → Sized p → (out : List ℕ) (a : Written) (exit : List ℕ) → Writes p out a exit → (n : ℕ) → a ≡ Length n
       → (r : Read) → r ≡ readOf (take n exit) → (r .verdict ≡ Accepted) × (r .program ≡ p)
   -- "a candidate is called p-stable exactly when Definition 3.1 of Sakama and Inoue says so"

@@ -51,9 +51,10 @@ unfoldable pub exit : Program → Run → List ℕ
 exit p (searched A l) = search.exitOf p A l
 exit p (fixed l w v) = fixpoint.exitOf p l w v
 
--- the nodes that a search visited
-abbrev pub visited : Program → ℕ → List ℕ → ℕ
-visited p A l = search.answerOf p A l .visited
+-- the nodes that a search visited; a fixpoint visits none
+unfoldable pub visited : Program → Run → ℕ
+visited p (searched A l) = search.answerOf p A l .visited
+visited p (fixed l w v) = 0
 
 -- "What a run lists is the words it wrote from the start of its lent list, as many as its answer counts as written"
 unfoldable pub listed : Program → Run → List ℕ
@@ -70,9 +71,9 @@ pub record AllModels (p : Program) : Type 0 where
   pub exactly : (w : ℕ) → (w ∈ allModels p) ↔ ((w < 2 ^ (2 * p .«atom_count»)) × PStable (rulesOf (clauses p)) (bit w))
 
 -- ---- a run by search, of an accepted table
--- N
-abbrev pub nodeCount : Program → ℕ
-nodeCount p = length (nodesOf p)
+-- "Let N be the number of all nodes."
+abbrev pub N : Program → ℕ
+N p = length (nodesOf p)
 
 -- the p-stable leaves among the first A nodes
 abbrev pub leavesIn : Program → ℕ → List ℕ
@@ -82,18 +83,18 @@ pub record BySearch (p : Program) (A : ℕ) (l : List ℕ) : Type 0 where
   -- "if among the first A nodes one is p-stable and the list is full already, .. full"
   pub full : (outcome p (searched A l) ≡ Full) ↔ (length l < length (leavesIn p A))
   -- "Else if A < N it is spent"
-  pub spent : (outcome p (searched A l) ≡ Spent) ↔ ((length (leavesIn p A) ≤ length l) × (A < nodeCount p))
+  pub spent : (outcome p (searched A l) ≡ Spent) ↔ ((length (leavesIn p A) ≤ length l) × (A < N p))
   -- "Else it is complete": the allowance reaches N, and the list has a place for every p-stable model
-  pub complete : (outcome p (searched A l) ≡ Complete) ↔ ((nodeCount p ≤ A) × (length (allModels p) ≤ length l))
+  pub complete : (outcome p (searched A l) ≡ Complete) ↔ ((N p ≤ A) × (length (allModels p) ≤ length l))
   -- "the search [meets] 9", and nothing else
   pub never-refused : (n : ℕ) → outcome p (searched A l) ≡ Refused n → ⊥
   pub writes : written p (searched A l) ≡ min (length l) (length (leavesIn p A))
   -- "the first such node ends the run as full and is counted": with it one p-stable leaf too many was visited, and not before
   pub visits-full : outcome p (searched A l) ≡ Full
-      → (length l < length (leavesIn p (visited p A l))) × ((m : ℕ) → m < visited p A l → length (leavesIn p m) ≤ length l)
+      → (length l < length (leavesIn p (visited p (searched A l)))) × ((m : ℕ) → m < visited p (searched A l) → length (leavesIn p m) ≤ length l)
   -- "spent, with A nodes visited"; "complete, with N visited"
-  pub visits-spent : outcome p (searched A l) ≡ Spent → visited p A l ≡ A
-  pub visits-complete : outcome p (searched A l) ≡ Complete → visited p A l ≡ nodeCount p
+  pub visits-spent : outcome p (searched A l) ≡ Spent → visited p (searched A l) ≡ A
+  pub visits-complete : outcome p (searched A l) ≡ Complete → visited p (searched A l) ≡ N p
 
 -- ---- a run by fixpoint, of an accepted table
 -- "Some stage, up to the one that ends the run, has more members than the working room."
@@ -132,9 +133,9 @@ pub record OneRun (p : Program) (r : Run) : Type 0 where
   -- "List places beyond those written keep their content.", and the list keeps its length
   pub behind : drop (written p r) (exit p r) ≡ drop (written p r) (lent r)
   pub places : length (exit p r) ≡ length (lent r)
-  -- "A table is accepted when refusal 9 does not apply to it."; "a refused run lists none"
+  -- "A table is accepted when refusal 9 does not apply to it."; "a refused run lists none", and "counts are 0"
   pub nine : (outcome p r ≡ Refused 9) ↔ (valid p ≡ false)
-  pub refused : (n : ℕ) → outcome p r ≡ Refused n → listed p r ≡ []
+  pub refused : (n : ℕ) → outcome p r ≡ Refused n → (listed p r ≡ []) × (visited p r ≡ 0)
   -- "outcome, refusal, list and nodes visited are document 01's"
   pub by-route : valid p ≡ true → ByRoute p r
 
@@ -156,5 +157,5 @@ pub record Ran (p : Program) (r : Run) (o : Outcome) (n : ℕ) (left : List ℕ)
 
 pub record Demand3 : Type 0 where
   pub two-runs : (p : Program) (r s : Run) → TwoRuns p r s
-  pub by-search : {p : Program} {A : ℕ} {l l′ : List ℕ} {a : SearchAnswer} → Searches p A l a l′ → Ran p (searched A l) (a .outcome) (a .written) l′ × (a .visited ≡ visited p A l)
+  pub by-search : {p : Program} {A : ℕ} {l l′ : List ℕ} {a : SearchAnswer} → Searches p A l a l′ → Ran p (searched A l) (a .outcome) (a .written) l′ × (a .visited ≡ visited p (searched A l))
   pub by-fixpoint : {p : Program} {l w v l′ w′ v′ : List ℕ} {a : FixpointAnswer} → Fixes p l w v a l′ w′ v′ → Ran p (fixed l w v) (a .outcome) (a .written) l′

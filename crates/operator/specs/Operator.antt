@@ -21,7 +21,8 @@ unfoldable pub rulesFrom : List ℕ → List ℕ → ℕ → ℕ → List WordRu
 rulesFrom hs bs k zero = []
 rulesFrom hs bs k (suc n) = record { head = getD hs k 0; body = getD bs k 0 } ∷ rulesFrom hs bs (k + 1) n
 
--- every set made of j and one head literal, chosen every way, of each clause whose body lies in i
+-- every set made of j and one head literal, chosen every way, of each clause whose body lies in i;
+-- "if I contains some constraint's body, it gives nothing", since an empty head offers no literal to choose
 unfoldable pub choices : ℕ → List WordRule → ℕ → List ℕ
 choices i [] j = j ∷ []
 choices i (c ∷ Q) j = cond (inside (c .body) i) (flatMap (λ h. choices i Q (put h j)) (literals (c .head))) (choices i Q j)

@@ -16,8 +16,8 @@ use Rattle.program.specs.Valid.{valid}
 use Rattle.text.specs.declared.Read.{Read}
 use Rattle.text.specs.declared.Verdict.the-variants.{Accepted, Refused}
 use Rattle.text.specs.Refusals.{refusal}
-use Rattle.text.specs.Reading.{refusedBy, programOf, readOf}
-use Rattle.text.proofs.RoundTrip.{refused-by, read-back, accepted-exactly}
+use Rattle.text.specs.Reading.{refusedBy, programOf, readOf, IsAccepted}
+use Rattle.text.proofs.RoundTrip as trip
 use Rattle.reporting.specs.Lines.{refusedLine}
 use Rattle.reporting.specs.Printing.{unlessRefused, printed, mostBytes, Prints}
 
@@ -37,21 +37,18 @@ module _ (t xs : List ℕ) where
 
 -- ---- the text was read
 module _ (b : List ℕ) (d : Read) (e : d ≡ readOf b) where
-  cleared : d .verdict ≡ Accepted → refusal b ≡ 0
-  cleared t = sym (refused-by b) ∙ ap (λ (x : Read). refusedBy (x .verdict)) (sym e) ∙ ap refusedBy t
+  taken : d .verdict ≡ Accepted → IsAccepted b
+  taken t = ap (λ (x : Read). x .verdict) (sym e) ∙ t
 
   pub read-valid : d .verdict ≡ Accepted → valid (d .program) ≡ true
-  read-valid t =
-      let x = accepted-exactly b .0 (ap (λ (x : Read). refusedBy (x .verdict)) (sym e) ∙ ap refusedBy t) in
-      let q = e ∙ ap readOf (sym (x .3)) ∙ read-back (x .0) (x .1) (x .2) in
-      ap (λ (y : Read). valid (y .program)) q ∙ x .2
+  read-valid t = ap (λ (y : Read). valid (y .program)) e ∙ trip.read-valid b (taken t)
 
   read-program : refusal b ≡ 0 → d .program ≡ programOf b
   unfolding readOf
   read-program z = ap (λ (x : Read). x .program) e ∙ rw z
 
   number-is : (n : ℕ) → d .verdict ≡ Refused n → n ≡ refusal b
-  number-is n t = sym (ap refusedBy t) ∙ ap (λ (x : Read). refusedBy (x .verdict)) e ∙ refused-by b
+  number-is n t = sym (ap refusedBy t) ∙ ap (λ (x : Read). refusedBy (x .verdict)) e ∙ trip.refused-by b
 
   accepted-zero : refusal b ≡ 0 → readOf b .verdict ≡ Accepted
   unfolding readOf
@@ -69,7 +66,7 @@ module _ (b : List ℕ) (d : Read) (e : d ≡ readOf b) where
   module _ (f : Program → List ℕ) (xs : List ℕ) (r : ℕ) (ys : List ℕ) (h : mostBytes ≤ length xs) where
     pub prints-accepted : d .verdict ≡ Accepted → Wrote (f (d .program)) xs r ys → Prints (printed f b) xs r ys
     unfolding printed unlessRefused
-    prints-accepted t w = prints (printed f b) xs r ys h (let z = cleared t in rw z (rw (read-program z) at w))
+    prints-accepted t w = prints (printed f b) xs r ys h (let z = trip.cleared b (taken t) in rw z (rw (read-program z) at w))
 
     pub prints-refused : (n : ℕ) → d .verdict ≡ Refused n → Wrote (refusedLine n) xs r ys → Prints (printed f b) xs r ys
     unfolding printed unlessRefused

@@ -1,10 +1,11 @@
 -- The report's whole output, as a definition of the bytes of its input. Assumes nothing.
+use mathlib.Core.Path.{_≡_}
 use mathlib.Core.List.{List, _++_}
 use Prim.Native.Nat.{ℕ}
 use lib.ListN.{replicate}
+use Rattle.lists.specs.Bytes.{Wrote}
 use Rattle.program.specs.declared.Program.{Program}
-use Rattle.search.specs.declared.SearchAnswer.{SearchAnswer}
-use Rattle.search.specs.Answer.{answerOf, listed}
+use Rattle.search.specs.Answer.{answerOf, exitOf, listed}
 use Rattle.reporting.specs.Lines.{listing, lastLine}
 use Rattle.reporting.specs.Printing.{printed}
 
@@ -14,6 +15,11 @@ unfoldable pub searchText : ℕ → List ℕ → Program → List ℕ
 searchText A l p =
     let a = answerOf p A l in
     listing p (listed p A l) ++ lastLine (a .outcome) (a .written) (a .visited)
+
+-- a search is printed: its text stands at the front of the slice, and the lent list holds what the search left there
+pub record PrintsSearch (p : Program) (A : ℕ) (l xs : List ℕ) (r : ℕ) (l′ ys : List ℕ) : Type 0 where
+  pub text : Wrote (searchText A l p) xs r ys
+  pub list : l′ ≡ exitOf p A l
 
 -- "searches with allowance 33,554,431 and a list of 4,096 words"
 abbrev pub allowance : ℕ

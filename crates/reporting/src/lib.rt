@@ -13,7 +13,7 @@ ghost use Rattle.program.specs.Valid.{valid};
 ghost use Rattle.text.specs.Lines.{namesLine, valuesLine};
 ghost use Rattle.reporting.specs.Lines.{byte, endText, tailText, countsText, bothText, outcomeWord, refusedWord, refusedLine, modelLines, lastLine};
 ghost use Rattle.reporting.specs.Printing.{mostBytes, Prints};
-ghost use Rattle.reporting.specs.Report.{searchText, allowance, lent, reportOf};
+ghost use Rattle.reporting.specs.Report.{searchText, allowance, lent, reportOf, PrintsSearch};
 use program::Program;
 use search::Outcome;
 use text::Verdict;
@@ -180,7 +180,7 @@ fn put_answer(
 // A search of `p` in the lent list, printed.
 pub fn put_search(p: Program, node_limit: u64, models: &mut [u32], out: &mut [u8]) -> usize
     requires { ⌜ (valid p ≡ true) × (length (now models) ≤ 4096) × (mostBytes ≤ length (now out)) ⌝ }
-    ensures { λ r. ⌜ Wrote (searchText «node_limit» (now (models .entry)) p) (now (out .entry)) r (now (out .exit)) ⌝ }
+    ensures { λ r. ⌜ PrintsSearch p «node_limit» (now (models .entry)) (now (out .entry)) r (now (models .exit)) (now (out .exit)) ⌝ }
 {
     let a = search::search(p, node_limit, models);
     let n = p.atom_count;

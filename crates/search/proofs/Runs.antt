@@ -1,14 +1,14 @@
 -- What every search answers and lists, for every table, every allowance A and every lent list l. Assumes nothing.
 use mathlib.Core.Path.{_≡_, refl, sym, ap, _∙_}
 use mathlib.Core.Bool.{Bool, true, false, cond, not}
-use mathlib.Core.Logic.{_↔_, _⊎_, ⊎-elim}
+use mathlib.Core.Logic.{_⊎_, ⊎-elim}
 use mathlib.Core.List.{List, []}
 use Prim.Native.Nat.{ℕ, suc, _+_, _-_, _*_, _%_, _^_, _≤_, _<_}
 use native.Mathlib.Omega.{arith}
 use lib.Dec.{ltb}
 use lib.ListN.{length, take, drop, length-take, length-drop, length-append, take-append-drop}
 use lib.Seq.{take-append-seam, drop-append-seam, take-all}
-use borrow.Author.Tests.{ltb-true, ltb-false, le-ltb, not-true, not-false}
+use borrow.Author.Tests.{ltb-true, ltb-false, not-true, not-false}
 use Rattle.sets.specs.Lists.{Begins}
 use Rattle.sets.specs.Words.{bit}
 use Rattle.sets.proofs.Tests.{dec, clash}
@@ -90,30 +90,6 @@ module _ (hit : Node → Bool) (xs : List Node) (A : ℕ) where
       let ws = listing hit xs A (length l) in
       omega (arith, length-append ws (drop (length ws) l), length-drop (length ws) l, fits (length l))
 
-  complete-when : (L : ℕ) → (runAnswer hit xs A L .outcome ≡ Complete) ↔ ((length xs ≤ A) × (length (hits hit xs) ≤ L))
-  unfolding runAnswer overfull
-  complete-when L = (
-    λ e. go (ltb L (length (hits hit (take A xs)))) (ltb A (length xs)) refl refl e,
-    λ h.
-        let a : take A xs ≡ xs = take-all A xs (h .0) in
-        let r : length (hits hit (take A xs)) ≤ L = rw a (h .1) in
-        rw (le-ltb L (length (hits hit (take A xs))) r, le-ltb A (length xs) (h .0)),
-  )
-    where
-      go : (b c : Bool) → ltb L (length (hits hit (take A xs))) ≡ b → ltb A (length xs) ≡ c
-          → (cond b (answer Full L (fullAt hit xs L)) (cond c (answer Spent (length (hits hit (take A xs))) A) (answer Complete (length (hits hit (take A xs))) (length xs)))) .outcome ≡ Complete
-          → (length xs ≤ A) × (length (hits hit xs) ≤ L)
-      go true c p q e = absurd (let z : _≡_ {A = ℕ} 0 1 = cc in omega arith)
-      go false true p q e = absurd (let z : _≡_ {A = ℕ} 0 1 = cc in omega arith)
-      go false false p q e =
-          let h : length xs ≤ A = ltb-false _ _ q in
-          let r : length (hits hit (take A xs)) ≤ L = ltb-false _ _ p in
-          (h, rw (take-all A xs h) at r)
-
-  complete-all : (L : ℕ) → length xs ≤ A → length (hits hit xs) ≤ L → listing hit xs A L ≡ hits hit xs
-  unfolding listing
-  complete-all L h r = rw (take-all A xs h) (take-all L (hits hit xs) r)
-
 -- ---- the search of a table
 pub leaves-of : (p : Program) → hits (leafOf p) (nodesOf p) ≡ models (p .«atom_count») (clauses p)
 leaves-of p = leaves-are-models (dead (clauses p)) (p .«atom_count») (clauses p) (dead-harmless (clauses p))
@@ -154,20 +130,6 @@ module _ (p : Program) (A : ℕ) (l : List ℕ) where
 
   pub same-places : length (exitOf p A l) ≡ length l
   same-places = ⊎-elim (λ v. rw (accepted v .1) (exit-length (leafOf p) (nodesOf p) A l)) (λ v. rw (refused v .1)) (dec (valid p))
-
-  -- it says complete exactly when its allowance reaches N and its list has a place for every p-stable word
-  pub complete-exactly : valid p ≡ true
-      → (answerOf p A l .outcome ≡ Complete) ↔ ((nodeCount (dead (clauses p)) (p .«atom_count») ≤ A) × (length (models (p .«atom_count») (clauses p)) ≤ length l))
-  complete-exactly v = rw (accepted v .0, ← leaves-of p) (complete-when (leafOf p) (nodesOf p) A (length l))
-
-  -- complete says all
-  pub complete-lists-all : answerOf p A l .outcome ≡ Complete → listed p A l ≡ models (p .«atom_count») (clauses p)
-  complete-lists-all e = ⊎-elim
-      (λ v.
-      let h = complete-when (leafOf p) (nodesOf p) A (length l) .0 (rw (accepted v .0) at e) in
-      listed-is v ∙ complete-all (leafOf p) (nodesOf p) A (length l) (h .0) (h .1) ∙ leaves-of p)
-      (λ v. absurd (let q = rw (refused v .0) at e in let z : _≡_ {A = ℕ} 0 1 = cc in omega arith))
-      (dec (valid p))
 
   -- ---- the ways that the call returns
   pub no-table : {v : Bool} {a : SearchAnswer} → v ≡ valid p → not v ≡ true → a ≡ answer (Refused 9) 0 0 → Searches p A l a l

@@ -47,10 +47,6 @@ unfolding below tabulate
 below-rising n = upFrom-rising n 0
 
 -- ---- first parts
-pub begins-self : (a : List ℕ) → Begins a a
-unfolding Begins
-begins-self a = take-all (length a) a (omega arith)
-
 pub begins-append : (a b : List ℕ) → Begins a (a ++ b)
 unfolding Begins
 begins-append a b = take-append-seam a b

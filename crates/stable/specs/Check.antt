@@ -22,7 +22,7 @@ unfoldable pub firstViolated : List Clause → ℕ → ℕ
 firstViolated P I = least (λ k. not (satisfies I (getD P k noClause))) (length P)
 
 -- The check "answers: not a model of its reduct, with the lowest number of a violated clause ..;
--- not minimal, with the numerically least smaller subset that satisfies the reduct; or p-stable."
+-- not minimal, with the numerically least smaller subset that satisfies the reduct; or p-stable." R are the rows that are numbered, P the clauses that count.
 unfoldable pub verdict : List Clause → List Clause → ℕ → Checked
 verdict R P I =
     cond (ltb (firstViolated R I) (length R)) (Violated (firstViolated R I))

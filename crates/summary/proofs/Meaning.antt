@@ -1,5 +1,5 @@
 -- What the summary says of values and not of bits. Assumes nothing.
-use mathlib.Core.Path.{_≡_, refl, sym, ap, _∙_}
+use mathlib.Core.Path.{_≡_, refl, ap, _∙_}
 use mathlib.Core.Logic.{_↔_, ⊎-elim}
 use mathlib.Core.Bool.{Bool, true, false, cond, not}
 use mathlib.Core.List.{List}
@@ -10,7 +10,7 @@ use lib.ListN.{getD, List·getD-eq-default}
 use borrow.Author.Tests.{eq-eqb, ne-eqb, eqb-true, lt-ltb, le-ltb, le-leb, leb-true}
 use Rattle.sets.specs.Lists.{every, tabulate}
 use Rattle.sets.specs.Words.{bit}
-use Rattle.sets.proofs.Tests.{dec, clash, lt-or-ge, same?, not-T-false}
+use Rattle.sets.proofs.Tests.{clash, lt-or-ge, same?, not-T-false}
 use Rattle.sets.proofs.Digits.{bit-div, bit-small}
 use Rattle.sets.proofs.Lists.{some-in, in-some, length-tabulate, getD-tabulate}
 use Rattle.lists.specs.Bytes.{oneIf}
@@ -20,7 +20,6 @@ use Rattle.program.specs.Values.{isWord, valueIn}
 use Rattle.program.specs.Refusals.{lowest}
 use Rattle.program.specs.Valid.{valid}
 use Rattle.program.proofs.Validity.{valid-names}
-use Rattle.text.specs.Reading.{refusedBy}
 use Rattle.summary.specs.Summary.{occurs, bitIf, occurringIn, isSettled, shownAt, settledAt, refusal, refusedSummary, summaryWith, summaryOf}
 use Rattle.summary.specs.Meaning.{Occurs, AtMostOne, Means}
 
@@ -160,14 +159,6 @@ module _ (p : Program) (words : List ℕ) where
   unfolding summaryOf
   refused h = rw (ne-eqb (refusal p words) 0 h)
 
-  -- the number that the answer carries is document 01's lowest, 0 where none applies
-  pub refused-by : refusedBy (summaryOf p words .verdict) ≡ refusal p words
-  unfolding summaryOf summaryWith refusedSummary
-  refused-by = ⊎-elim
-      (λ t. rw t (sym (eqb-true (refusal p words) 0 t)))
-      (λ f. rw f)
-      (dec (eqb (refusal p words) 0))
-
   -- an accepted table has at most 12 names
   few-names : refusal p words ≡ 0 → p .«atom_count» ≤ 12
   unfolding refusal lowest
@@ -207,11 +198,12 @@ module _ (n : ℕ) (words : List ℕ) where
 
 -- The summary's answer, for every table and every list of words, says what document 01 says of it.
 pub summary-means : (p : Program) (words : List ℕ) → Means p words (summaryOf p words)
-unfolding refusedSummary
+unfolding summaryWith refusedSummary
 summary-means p words =
     let n = p .«atom_count» in
     record {
-      number = refused-by p words;
+      accepted = λ z. rw (accepted p words z);
+      number = λ f. rw (refused p words f);
       shows = λ z i h v. rw (accepted p words z, shown-at n words i (few-names p words z) h) (shown-exactly words i v);
       settles = λ z i h. rw (accepted p words z, settled-at n words i (few-names p words z) h) (settled-exactly words i);
       no-name = λ i h. ⊎-elim

@@ -9,7 +9,7 @@ use Rattle.sets.specs.Lists.{Some}
 use Rattle.sets.specs.Words.{bit}
 use Rattle.program.specs.declared.Program.{Program}
 use Rattle.program.specs.Values.{valueIn}
-use Rattle.text.specs.Reading.{refusedBy}
+use Rattle.text.specs.declared.Verdict.the-variants.{Accepted, Refused}
 use Rattle.summary.specs.declared.Summary.{Summary}
 use Rattle.summary.specs.Summary.{refusal}
 
@@ -23,8 +23,9 @@ AtMostOne i words = (u v : ℕ) → Occurs u i words → Occurs v i words → u 
 
 -- what the summary s of the words says
 pub record Means (p : Program) (words : List ℕ) (s : Summary) : Type 0 where
-  -- "A refusal carries its number", 0 where the input is accepted
-  pub number : refusedBy (s .verdict) ≡ refusal p words
+  -- "A refusal carries its number"
+  pub accepted : refusal p words ≡ 0 → s .verdict ≡ Accepted
+  pub number : (refusal p words ≡ 0 → ⊥) → s .verdict ≡ Refused (refusal p words)
   -- "gives for each name which of the four values occur": bit v is set exactly where the value v does
   pub shows : refusal p words ≡ 0 → (i : ℕ) → i < p .«atom_count» → (v : ℕ) → (bit (getD (s .occurring) i 0) v ≡ true) ↔ Occurs v i words
   -- "a name is settled when at most one value occurs"

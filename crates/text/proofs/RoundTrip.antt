@@ -33,8 +33,8 @@ refused-by b = ⊎-elim
     (λ f. rw f)
     (dec (eqb (refusal b) 0))
 
-cleared : (b : List ℕ) → IsAccepted b → refusal b ≡ 0
-cleared b a = sym (refused-by b) ∙ a
+pub cleared : (b : List ℕ) → IsAccepted b → refusal b ≡ 0
+cleared b a = sym (refused-by b) ∙ ap refusedBy a
 
 pub taken : (b : List ℕ) → refusal b ≡ 0 → readOf b ≡ record { verdict = Accepted; program = programOf b }
 unfolding readOf
@@ -46,7 +46,7 @@ unfolding readOf
 refused b h = rw (ne-eqb (refusal b) 0 h)
 
 accepted : (b : List ℕ) → refusal b ≡ 0 → IsAccepted b
-accepted b z = refused-by b ∙ z
+accepted b z = ap (λ r. r .verdict) (taken b z)
 
 program-is : (b : List ℕ) → refusal b ≡ 0 → readOf b .program ≡ programOf b
 program-is b z = ap (λ r. r .program) (taken b z)
@@ -103,6 +103,10 @@ values-read b a =
     let vss = map row (clauseLines b) in
     sym (all-values (length (names b)) vss (good-read b (cleared b a) .ruled))
     ∙ ap₂ (λ (f : Clause → List ℕ) (cs : List Clause). map f cs) (values-sums (length (names b))) (sym (clauses-read b a))
+
+-- What an accepted text is read as is valid.
+pub read-valid : (b : List ℕ) → IsAccepted b → valid (readOf b .program) ≡ true
+read-valid b a = let z = cleared b a in ap valid (program-is b z) ∙ valid-read b z
 
 -- An accepted text is the text of the program that it is read as, byte for byte.
 pub written-back : (b : List ℕ) → IsAccepted b → render (readOf b .program) ≡ b

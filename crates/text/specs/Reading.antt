@@ -30,4 +30,4 @@ readOf b = cond (eqb (refusal b) 0)
 
 -- the reader takes the text
 abbrev pub IsAccepted : List ℕ → Type 0
-IsAccepted b = refusedBy (readOf b .verdict) ≡ 0
+IsAccepted b = readOf b .verdict ≡ Accepted

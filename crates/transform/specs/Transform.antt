@@ -1,4 +1,4 @@
--- The epistemic transform of a program of masks (000, Definition 3.5), and that it is the theory's. Assumes nothing.
+-- The epistemic transform of a program of words (000, Definition 3.5). Assumes nothing.
 use Prim.Native.Nat.{ℕ, _+_}
 use lib.Dec.{eqb}
 use lib.ListN.{length}

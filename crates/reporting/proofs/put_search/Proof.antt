@@ -15,7 +15,7 @@ put-answer-requires c κs = let s = c .before .before .before .before .before .b
 returns : tie.Need-returns
 returns c = let s = c .before .before .before .before .before .before .before .before .before .before .before .before .before in
     let q = c .before .before .before .before .before .before .before .before .before .search in
-    found-wrote (s .args .p) (s .pre .0) _ _ (q .result) _ (q .ensures) _ _ _ (c .before .before .put-answer .ensures)
+    record { text = found-wrote (s .args .p) (s .pre .0) _ _ (q .result) _ (q .ensures) _ _ _ (c .before .before .put-answer .ensures); list = q .ensures .lists }
 
 pub put-search-spec : {M : Type 1} → statement M
 put-search-spec = tie.close (tie.spec (λ c. search rules) put-answer-requires (λ c. search rules) (λ c. search rules) returns)
