@@ -23,8 +23,8 @@ use Rattle.demands.proofs.Outcomes.{refused-complete}
 use Rattle.demands.proofs.Searching as searching
 use Rattle.demands.proofs.Fixing as fixing
 
-all-models : (p : Program) → AllModels p
-all-models p = record { rising = decides.rising (p .«atom_count») (clauses p); exactly = decides.listed (p .«atom_count») (clauses p) }
+every-model : (p : Program) → AllModels p
+every-model p = record { rising = decides.rising (p .«atom_count») (clauses p); exactly = decides.listed (p .«atom_count») (clauses p) }
 
 -- the first of all models, as many as are counted
 begins : (p : Program) (r : Run) → listed p r ≡ take (written p r) (allModels p) → length (listed p r) ≡ written p r → Begins (listed p r) (allModels p)
@@ -32,7 +32,7 @@ unfolding Begins
 begins p r e n = ap (λ (k : ℕ). take k (allModels p)) n ∙ sym e
 
 rises : (p : Program) (r : Run) → listed p r ≡ take (written p r) (allModels p) → length (listed p r) ≡ written p r → Rising (listed p r)
-rises p r e n = begins-rising (listed p r) (allModels p) (begins p r e n) (all-models p .rising)
+rises p r e n = begins-rising (listed p r) (allModels p) (begins p r e n) (every-model p .rising)
 
 -- ---- a run by search
 module _ (p : Program) (A : ℕ) (l : List ℕ) where
@@ -133,7 +133,7 @@ two-runs p r s =
       shorter = λ h. begins-both (listed p r) (listed p s) (allModels p) x y h;
       longer = λ h. begins-both (listed p s) (listed p r) (allModels p) y x h;
       equal = λ e. begins-same (listed p r) (listed p s) (allModels p) x y e;
-      all = all-models p;
+      all-models = every-model p;
       first = a;
       second = b;
     }

@@ -145,7 +145,7 @@ pub record TwoRuns (p : Program) (r s : Run) : Type 0 where
   pub shorter : length (listed p r) ≤ length (listed p s) → Begins (listed p r) (listed p s)
   pub longer : length (listed p s) ≤ length (listed p r) → Begins (listed p s) (listed p r)
   pub equal : length (listed p r) ≡ length (listed p s) → listed p r ≡ listed p s
-  pub all : AllModels p
+  pub all-models : AllModels p
   pub first : OneRun p r
   pub second : OneRun p s
 
