@@ -7,14 +7,14 @@ use native.Mathlib.Omega.{arith}
 use lib.ListN.{length, getD, set, length-append}
 use Rattle.sets.specs.Lists.{tabulate}
 use Rattle.sets.proofs.Lists.{upFrom-ext, getD-tabulate}
-use Rattle.lists.specs.Bytes.{Wrote}
+use Rattle.lists.specs.Bytes.{Wrote, oneIf}
 use Rattle.lists.proofs.Filling.{Filled, fill-more}
 use Rattle.program.specs.Names.{nameAt}
 use Rattle.text.specs.Lines.{namesLine, valuesLine}
 use Rattle.writer.specs.Lines.{firstOf}
 use Rattle.reporting.specs.Printing.{mostBytes}
 use Rattle.reporting.proofs.Texts.{digits-most, names-most}
-use Rattle.showing.specs.Showing.{bitAt, bitsLine, fourLines, oneIf, flagAt, flagsLine}
+use Rattle.showing.specs.Showing.{bitAt, bitsLine, fourLines, flagAt, flagsLine}
 
 -- the places of an array, one by one
 pub bits-more : (k : ℕ) (shown : List ℕ) (i : ℕ) (out : List ℕ) → Filled (bitAt k shown) 0 12 i out → i < 12 → Filled (bitAt k shown) 0 12 (i + 1) (set out i (getD shown i 0 / k % 2))

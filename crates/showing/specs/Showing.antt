@@ -1,9 +1,10 @@
 -- The lines of a summary behind its names line. Assumes nothing.
-use mathlib.Core.Bool.{Bool, true, false}
+use mathlib.Core.Bool.{Bool, false}
 use mathlib.Core.List.{List, _++_}
 use Prim.Native.Nat.{ℕ, _/_, _%_}
 use lib.ListN.{getD}
 use Rattle.sets.specs.Lists.{tabulate}
+use Rattle.lists.specs.Bytes.{oneIf}
 use Rattle.text.specs.Lines.{valuesLine}
 
 -- "four lines of 0 and 1 (which names take value 0, 1, 2, 3 in some model)":
@@ -18,10 +19,6 @@ abbrev pub fourLines : List ℕ → ℕ → List ℕ
 fourLines shown n = (bitsLine 1 shown n ++ bitsLine 2 shown n) ++ (bitsLine 4 shown n ++ bitsLine 8 shown n)
 
 -- "a line of 0 and 1 (settled)": 1 where the place i holds true
-abbrev pub oneIf : Bool → ℕ
-oneIf true = 1
-oneIf false = 0
-
 unfoldable pub flagAt : List Bool → ℕ → ℕ
 flagAt flags i = oneIf (getD flags i false)
 

@@ -4,10 +4,10 @@ ghost use mathlib.Core.List.{_++_};
 ghost use Prim.Native.Nat.{_≤_};
 ghost use lib.ListN.{length};
 ghost use Rattle.sets.specs.Lists.{tabulate};
-ghost use Rattle.lists.specs.Bytes.{Wrote};
+ghost use Rattle.lists.specs.Bytes.{Wrote, oneIf};
 ghost use Rattle.program.specs.Names.{nameAt};
 ghost use Rattle.text.specs.Lines.{namesLine};
-ghost use Rattle.showing.specs.Showing.{bitAt, bitsLine, fourLines, oneIf, flagAt, flagsLine};
+ghost use Rattle.showing.specs.Showing.{bitAt, bitsLine, fourLines, flagAt, flagsLine};
 
 // The bits that count `k`.
 fn bits_of(shown: &[u8; 12], k: u8) -> [u8; 12]
