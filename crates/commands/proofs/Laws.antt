@@ -21,14 +21,15 @@ use Rattle.text.specs.Render.{render}
 use Rattle.text.specs.Reading as reading
 use Rattle.text.specs.Writing as writing
 use Rattle.text.specs.declared.Read.{Read}
-use Rattle.text.specs.declared.Verdict.the-variants as verdict
+use Rattle.program.specs.declared.Verdict.the-variants as verdict
 use Rattle.text.specs.declared.Written.{Written}
 use Rattle.text.specs.declared.Written.the-variants as written
 use Rattle.text.proofs.RoundTrip.{cleared, written-back}
 use Rattle.stable.specs.declared.Checked.{Checked}
 use Rattle.stable.specs.Check.{Checks}
 use Rattle.search.specs.declared.SearchAnswer.{SearchAnswer}
-use Rattle.search.specs.Answer.{listed, refusedBy, Searches}
+use Rattle.search.specs.Answer.{listed, Searches}
+use Rattle.program.specs.Refusals.{refusedBy, endedBy}
 use Rattle.fixpoint.specs.declared.FixpointAnswer.{FixpointAnswer}
 use Rattle.fixpoint.specs.Overwriting.{overwrite}
 use Rattle.fixpoint.specs.Answer as fixed
@@ -126,7 +127,7 @@ module _ (p : Program) (l w v : List ℕ) (a : FixpointAnswer) (ms w′ v′ : L
         numbered-most (outcomeWord (a .outcome)) (a .written) (word-most (a .outcome)) (omega arith),
       )
 
-  module _ (n : ℕ) (e : n ≡ refusedBy (a .outcome)) (xs : List ℕ) (r : ℕ) (ys : List ℕ) where
+  module _ (n : ℕ) (e : n ≡ endedBy (a .outcome)) (xs : List ℕ) (r : ℕ) (ys : List ℕ) where
     pub fixed-wrote : n ≡ 0 → Wrote fixedText xs r ys → Wrote (fixpointText l w v p) xs r ys
     unfolding fixpointText
     fixed-wrote z h = rw (← s .says, ← s .lists, ← shown-is p ms (a .written)) (unrefused _ fixedText xs r ys (sym e ∙ z) h)
@@ -139,7 +140,7 @@ module _ (p : Program) (l w v : List ℕ) (a : FixpointAnswer) (ms w′ v′ : L
 module _ (p : Program) (words : List ℕ) (s : Summary) (e : s ≡ summaryOf p words) (xs : List ℕ) (r : ℕ) (ys : List ℕ) where
   pub lines-wrote : s .verdict ≡ verdict.Accepted → Wrote (linesText (p .«atom_names») (p .«atom_count») (s .occurring) (s .settled)) xs r ys → Wrote (summarizedText words p) xs r ys
   unfolding summarizedText summaryLines namesOf
-  lines-wrote t w = rw (← e) (unrefused _ _ xs r ys (ap reading.refusedBy t) w)
+  lines-wrote t w = rw (← e) (unrefused _ _ xs r ys (ap refusedBy t) w)
 
   -- a refusal's number is not 0
   numbered-so : (n : ℕ) → s .verdict ≡ verdict.Refused n → n ≡ 0 → ⊥
@@ -151,7 +152,7 @@ module _ (p : Program) (words : List ℕ) (s : Summary) (e : s ≡ summaryOf p w
       omega arith)
       (λ q.
       let y : verdict.Refused n ≡ verdict.Refused (refusing.refusal p words) = sym t ∙ ap (λ (x : Summary). x .verdict) e ∙ rw q in
-      clash (eqb (refusing.refusal p words) 0) (rw (← ap reading.refusedBy y, z)) q)
+      clash (eqb (refusing.refusal p words) 0) (rw (← ap refusedBy y, z)) q)
       (dec (eqb (refusing.refusal p words) 0))
 
   pub summary-refused : (n : ℕ) → s .verdict ≡ verdict.Refused n → Wrote (refusedLine n) xs r ys → Wrote (summarizedText words p) xs r ys

@@ -6,12 +6,12 @@ use Rattle.program.specs.declared.Program.{Program}
 use Rattle.program.specs.Names.{namesOf}
 use Rattle.text.specs.Lines.{lineOf, namesLine}
 use Rattle.text.specs.Render.{render}
-use Rattle.text.specs.Reading as reading
 use Rattle.stable.specs.declared.Checked.{Checked}
 use Rattle.stable.specs.declared.Checked.the-variants.{Refused, Violated, Smaller, Stable}
 use Rattle.stable.specs.Check as checked
-use Rattle.search.specs.declared.Outcome.{Outcome}
-use Rattle.search.specs.Answer.{listed, refusedBy}
+use Rattle.program.specs.declared.Outcome.{Outcome}
+use Rattle.search.specs.Answer.{listed}
+use Rattle.program.specs.Refusals.{refusedBy, endedBy}
 use Rattle.fixpoint.specs.declared.FixpointAnswer.{FixpointAnswer}
 use Rattle.fixpoint.specs.Answer as fixed
 use Rattle.summary.specs.declared.Summary.{Summary}
@@ -61,7 +61,7 @@ workSlice capacity = replicate (min capacity 65536) 0
 unfoldable pub fixpointText : List ℕ → List ℕ → List ℕ → Program → List ℕ
 fixpointText l w v p =
     let a = fixed.answerOf p l w v in
-    unlessRefused (refusedBy (a .outcome)) (listing p (take (a .written) (fixed.exitOf p l w v)) ++ numbered (outcomeWord (a .outcome)) (a .written))
+    unlessRefused (endedBy (a .outcome)) (listing p (take (a .written) (fixed.exitOf p l w v)) ++ numbered (outcomeWord (a .outcome)) (a .written))
 
 unfoldable pub fixpointOutput : ℕ → ℕ → List ℕ → List ℕ
 fixpointOutput places capacity b = printed (fixpointText (lentList places) (workSlice capacity) (workSlice capacity)) b
@@ -74,7 +74,7 @@ summaryLines p s = namesLine (namesOf p) ++ (fourLines (s .occurring) (p .«atom
 unfoldable pub summarizedText : List ℕ → Program → List ℕ
 summarizedText words p =
     let s = summaryOf p words in
-    unlessRefused (reading.refusedBy (s .verdict)) (summaryLines p s)
+    unlessRefused (refusedBy (s .verdict)) (summaryLines p s)
 
 -- "after a search as the report's (limit 33,554,431, list of 4,096)"
 unfoldable pub summaryText : Program → List ℕ

@@ -10,17 +10,17 @@ ghost use Rattle.program.specs.Names.{nameAt};
 ghost use Rattle.program.specs.Valid.{valid};
 ghost use Rattle.text.specs.Lines.{namesLine};
 ghost use Rattle.text.specs.Render.{render};
-ghost use Rattle.search.specs.Answer.{refusedBy};
+ghost use Rattle.program.specs.Refusals.{endedBy};
 ghost use Rattle.reporting.specs.Lines.{outcomeWord, numbered, modelLines};
 ghost use Rattle.reporting.specs.Printing.{mostBytes, Prints};
 ghost use Rattle.reporting.specs.Report.{searchText};
 ghost use Rattle.commands.specs.Commands.{checkedLine, checkText, checkOutput, lentList, searchOutput, workSlice, fixpointText, fixpointOutput, summarizedText, summaryText, summaryOutput, writeOutput};
+use program::Outcome;
 use program::Program;
+use program::Verdict;
 use reporting::MOST_BYTES;
 use reporting::NODE_LIMIT;
-use search::Outcome;
 use stable::Checked;
-use text::Verdict;
 use text::Written;
 
 // The most places of a list, and the most words of a working slice.
@@ -111,7 +111,7 @@ pub fn search(text: &[u8], node_limit: u64, places: usize, out: &mut [u8]) -> us
 // ---- fixpoint
 // The number of an outcome's refusal, 0 for none.
 fn refused_by(outcome: Outcome) -> u8
-    ensures { λ r. ⌜ r ≡ refusedBy outcome ⌝ }
+    ensures { λ r. ⌜ r ≡ endedBy outcome ⌝ }
 {
     match outcome {
         Outcome::Complete => 0,

@@ -16,8 +16,8 @@ use Rattle.program.specs.declared.Program.{Program}
 use Rattle.program.specs.Clauses.{Clause, rows, clauses}
 use Rattle.program.specs.Refusals.{lowest, Applies, Lowest}
 use Rattle.program.proofs.Lowest.{rises, none-lowest, lowest-is, one-lowest}
-use Rattle.text.specs.declared.Verdict.{Verdict}
-use Rattle.text.specs.declared.Verdict.the-variants.{Accepted, Refused}
+use Rattle.program.specs.declared.Verdict.{Verdict}
+use Rattle.program.specs.declared.Verdict.the-variants.{Accepted, Refused}
 use Rattle.text.specs.Refusals as reading
 use Rattle.text.specs.Tables.{zeroTable}
 use Rattle.text.specs.Writing.{writeRefusal, writtenLength}
@@ -30,8 +30,8 @@ use Rattle.stable.specs.Check as checking
 use Rattle.summary.specs.Summary.{summaryWith, refusedSummary}
 use Rattle.summary.specs.Summary as summing
 use Rattle.summary.proofs.Meaning as meaning
-use Rattle.search.specs.declared.Outcome.the-variants.{Complete, Full, Spent}
-use Rattle.search.specs.declared.Outcome.the-variants as outcome
+use Rattle.program.specs.declared.Outcome.the-variants.{Complete, Full, Spent}
+use Rattle.program.specs.declared.Outcome.the-variants as outcome
 use Rattle.search.specs.Tree.{hits}
 use Rattle.search.specs.Answer.{answer, leafOf, nodesOf, overfull, fullAt, runAnswer}
 use Rattle.search.specs.Answer as searching

@@ -14,7 +14,7 @@ use Rattle.program.specs.declared.Program.{Program}
 use Rattle.program.specs.Clauses.{clauses}
 use Rattle.program.specs.Valid.{valid}
 use Rattle.stable.proofs.Decides as decides
-use Rattle.search.specs.declared.Outcome.the-variants.{Complete, Refused}
+use Rattle.program.specs.declared.Outcome.the-variants.{Complete, Refused}
 use Rattle.search.specs.Answer.{listed as searchListed}
 use Rattle.search.proofs.Runs as searches
 use Rattle.fixpoint.specs.Answer.{refused as fixedRefused}

@@ -18,8 +18,8 @@ use Rattle.program.specs.Valid.{valid}
 use Rattle.program.specs.Refusals.{lowest}
 use Rattle.operator.specs.Operator.{stage}
 use Rattle.stages.specs.Run.{ending, crowded}
-use Rattle.search.specs.declared.Outcome.{Outcome}
-use Rattle.search.specs.declared.Outcome.the-variants.{Complete, Full, Refused}
+use Rattle.program.specs.declared.Outcome.{Outcome}
+use Rattle.program.specs.declared.Outcome.the-variants.{Complete, Full, Refused}
 use Rattle.fixpoint.specs.declared.FixpointAnswer.{FixpointAnswer}
 use Rattle.fixpoint.specs.Overwriting.{overwrite}
 use Rattle.fixpoint.specs.Answer.{vocabulary, transformOf, roomOf, found, refusal, listed, refused, answerOf, exitOf}

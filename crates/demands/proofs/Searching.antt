@@ -13,7 +13,7 @@ use Rattle.sets.proofs.Tests.{dec, lt-or-ge}
 use Rattle.sets.proofs.Least.{least-hit, least-miss}
 use Rattle.program.specs.declared.Program.{Program}
 use Rattle.program.specs.Valid.{valid}
-use Rattle.search.specs.declared.Outcome.the-variants.{Complete, Full, Spent}
+use Rattle.program.specs.declared.Outcome.the-variants.{Complete, Full, Spent}
 use Rattle.search.specs.declared.SearchAnswer.{SearchAnswer}
 use Rattle.search.specs.Tree.{Node, hits}
 use Rattle.search.specs.Answer.{answer, nodesOf, leafOf, overfull, fullAt, runAnswer, answerOf, exitOf, listed}

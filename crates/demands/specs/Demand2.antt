@@ -13,7 +13,7 @@ use Rattle.program.specs.Clauses.{rows, clauses}
 use Rattle.program.specs.Names.{namesOf}
 use Rattle.program.specs.Values.{isWord, clauseOfValues, sumFor}
 use Rattle.program.specs.Valid.{valid, Sized}
-use Rattle.text.specs.declared.Verdict.the-variants.{Accepted}
+use Rattle.program.specs.declared.Verdict.the-variants.{Accepted}
 use Rattle.text.specs.declared.Read.{Read}
 use Rattle.text.specs.declared.Written.{Written}
 use Rattle.text.specs.declared.Written.the-variants.{Length}

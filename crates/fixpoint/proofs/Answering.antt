@@ -28,7 +28,7 @@ use Rattle.stages.specs.Minimal.{minimalModels, Minimals}
 use Rattle.rising.proofs.RisingSets.{in-addAll}
 use Rattle.transform.specs.Transform.{epistemic, allStandIns, members}
 use Rattle.transform.specs.Emit.{clausesFrom, Emits, Room, Book}
-use Rattle.search.specs.declared.Outcome.the-variants.{Complete, Full, Refused}
+use Rattle.program.specs.declared.Outcome.the-variants.{Complete, Full, Refused}
 use Rattle.fixpoint.specs.declared.FixpointAnswer.{FixpointAnswer}
 use Rattle.transform.specs.Listing.{literalPart, canonical, listing}
 use Rattle.fixpoint.specs.Overwriting.{overwrite}

@@ -12,7 +12,7 @@ use Rattle.program.specs.Refusals.{lowest}
 use Rattle.operator.specs.Operator.{WordRule}
 use Rattle.stages.specs.Run.{crowded}
 use Rattle.transform.specs.Transform.{epistemic, members}
-use Rattle.search.specs.declared.Outcome.the-variants.{Complete, Full, Refused}
+use Rattle.program.specs.declared.Outcome.the-variants.{Complete, Full, Refused}
 use Rattle.fixpoint.specs.declared.FixpointAnswer.{FixpointAnswer}
 use Rattle.transform.specs.Listing.{listing}
 use Rattle.fixpoint.specs.Overwriting.{overwrite}

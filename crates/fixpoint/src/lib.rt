@@ -11,20 +11,14 @@ ghost use Rattle.transform.specs.Emit.{clausesFrom, Book};
 ghost use Rattle.transform.specs.Listing.{literalPart, canonical};
 ghost use Rattle.fixpoint.specs.Overwriting.{overwrite};
 ghost use Rattle.fixpoint.specs.Answer.{listed, refused, Answered, Fixpoint, Fixes};
+use program::Outcome;
 use program::Program;
-use search::Outcome;
 
 // What a fixpoint answers; its outcome is never spent.
 pub struct FixpointAnswer {
     pub outcome: Outcome,
     pub written: usize,
 }
-
-// Refusal 11: W exceeds 64.
-pub const TOO_MANY_MEMBERS: u8 = 11;
-
-// Refusal 12: some stage has more members than the working room.
-pub const TOO_LITTLE_ROOM: u8 = 12;
 
 // The `m` lowest bits.
 fn low_part(w: u64, m: u32) -> u64
@@ -133,7 +127,7 @@ fn list_even<'a>(
     let room = first.len();
     let n = stages::minimal_models(heads, bodies, count, first, second);
     if room < n {
-        return refuse(TOO_LITTLE_ROOM);
+        return refuse(program::TOO_LITTLE_ROOM);
     }
     let k = collect(first, n, m, second);
     let w = write_models(second, k, models);
@@ -181,7 +175,7 @@ fn fix_clauses<'a>(
 {
     let stands = transform::count_stand_ins(heads, bodies, nafs, count);
     if 64 < m + m + stands {
-        return refuse(TOO_MANY_MEMBERS);
+        return refuse(program::TOO_MANY_MEMBERS);
     }
     let mut hs = [0u64; 1120];
     let mut bs = [0u64; 1120];

@@ -233,28 +233,28 @@ pub fn refusal_of(text: &[u8]) -> u8
     ensures { λ r. ⌜ r ≡ refusal (now (text .entry)) ⌝ }
 {
     if wrong_size(text) {
-        return text::WRONG_SIZE;
+        return program::WRONG_SIZE;
     }
     if is_unended(text) {
-        return text::UNENDED;
+        return program::UNENDED;
     }
     if has_foreign(text) {
-        return text::FOREIGN_BYTE;
+        return program::FOREIGN_BYTE;
     }
     if too_many_lines(text) {
-        return text::TOO_MANY_LINES;
+        return program::TOO_MANY_LINES;
     }
     if names_broken(text) {
-        return text::NAMES_BROKEN;
+        return program::NAMES_BROKEN;
     }
     if names_equal(text) {
-        return text::NAMES_EQUAL;
+        return program::NAMES_EQUAL;
     }
     if clause_broken(text) {
-        return text::CLAUSE_BROKEN;
+        return program::CLAUSE_BROKEN;
     }
     if only_zeros(text) {
-        return text::ONLY_ZEROS;
+        return program::ONLY_ZEROS;
     }
     0
 }

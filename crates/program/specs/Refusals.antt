@@ -4,6 +4,10 @@ use mathlib.Core.Bool.{Bool, true, cond}
 use mathlib.Core.List.{List, [], _∷_}
 use Prim.Native.Nat.{ℕ, _≤_}
 use Rattle.sets.specs.Lists.{Some}
+use Rattle.program.specs.declared.Verdict.{Verdict}
+use Rattle.program.specs.declared.Verdict.the-variants as verdict
+use Rattle.program.specs.declared.Outcome.{Outcome}
+use Rattle.program.specs.declared.Outcome.the-variants as outcome
 
 -- "Of several that apply, the lowest is given": the first number whose test holds, 0 for none.
 unfoldable pub lowest : List (ℕ × Bool) → ℕ
@@ -18,3 +22,14 @@ Applies ts n = Some (λ t. (t .0 ≡ n) × (t .1 ≡ true)) ts
 pub record Lowest (ts : List (ℕ × Bool)) (n : ℕ) : Type 0 where
   pub applies : Applies ts n
   pub least : (m : ℕ) → Applies ts m → n ≤ m
+
+-- "A refusal carries its number": the number of a verdict, 0 where the input is accepted; of an outcome, 0 where it is none
+abbrev pub refusedBy : Verdict → ℕ
+refusedBy verdict.Accepted = 0
+refusedBy (verdict.Refused n) = n
+
+unfoldable pub endedBy : Outcome → ℕ
+endedBy outcome.Complete = 0
+endedBy outcome.Full = 0
+endedBy outcome.Spent = 0
+endedBy (outcome.Refused n) = n

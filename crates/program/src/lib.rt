@@ -19,11 +19,53 @@ pub struct Program {
     pub nafs: [u32; 64],
 }
 
-// Refusal 9: the table is none that the reader could give.
+// ---- what calls answer
+// Whether a call takes its input, or the refusal that it gives.
+pub enum Verdict {
+    Accepted,
+    Refused(u8),
+}
+
+// How a call that lists models ended; document 01's outcomes.
+pub enum Outcome {
+    Complete,
+    Full,
+    Spent,
+    Refused(u8),
+}
+
+// ---- the numbers of the refusals
+// 1 to 8, of the reader.
+pub const WRONG_SIZE: u8 = 1;
+
+pub const UNENDED: u8 = 2;
+
+pub const FOREIGN_BYTE: u8 = 3;
+
+pub const TOO_MANY_LINES: u8 = 4;
+
+pub const NAMES_BROKEN: u8 = 5;
+
+pub const NAMES_EQUAL: u8 = 6;
+
+pub const CLAUSE_BROKEN: u8 = 7;
+
+pub const ONLY_ZEROS: u8 = 8;
+
+// The table is none that the reader could give.
 pub const INVALID_PROGRAM: u8 = 9;
 
-// Refusal 10: a word has a bit at 2n or above.
+// A word has a bit at 2n or above.
 pub const OUTSIDE_WORD: u8 = 10;
+
+// For the fixpoint, W exceeds 64.
+pub const TOO_MANY_MEMBERS: u8 = 11;
+
+// Some stage has more members than the working room.
+pub const TOO_LITTLE_ROOM: u8 = 12;
+
+// The writer's slice is shorter than the text.
+pub const SLICE_TOO_SHORT: u8 = 13;
 
 // ---- words over n atoms
 // Whether `w` has no bit at 2n or above.

@@ -15,8 +15,8 @@ ghost use Rattle.text.specs.Reading.{programOf, readOf};
 use form::NEWLINE;
 use form::SPACE;
 use program::Program;
+use program::Verdict;
 use text::Read;
-use text::Verdict;
 
 // ---- the table of an accepted text
 // The lower bit of atom `i`.

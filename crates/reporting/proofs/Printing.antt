@@ -14,9 +14,10 @@ use Rattle.lists.specs.Bytes.{Wrote}
 use Rattle.program.specs.declared.Program.{Program}
 use Rattle.program.specs.Valid.{valid}
 use Rattle.text.specs.declared.Read.{Read}
-use Rattle.text.specs.declared.Verdict.the-variants.{Accepted, Refused}
+use Rattle.program.specs.declared.Verdict.the-variants.{Accepted, Refused}
 use Rattle.text.specs.Refusals.{refusal}
-use Rattle.text.specs.Reading.{refusedBy, programOf, readOf, IsAccepted}
+use Rattle.text.specs.Reading.{programOf, readOf, IsAccepted}
+use Rattle.program.specs.Refusals.{refusedBy}
 use Rattle.text.proofs.RoundTrip as trip
 use Rattle.reporting.specs.Lines.{refusedLine}
 use Rattle.reporting.specs.Printing.{unlessRefused, printed, mostBytes, Prints}

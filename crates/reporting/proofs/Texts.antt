@@ -21,8 +21,8 @@ use Rattle.program.specs.Values.{valueIn, clauseValue, clauseValues, wordValues
 use Rattle.writer.specs.Lines.{firstOf}
 use Rattle.writer.proofs.Lines.{Valued, valued-more, clause-wrote, clause-room}
 use Rattle.text.specs.Lines.{lineOf, namesLine, valuesLine}
-use Rattle.search.specs.declared.Outcome.{Outcome}
-use Rattle.search.specs.declared.Outcome.the-variants as ended
+use Rattle.program.specs.declared.Outcome.{Outcome}
+use Rattle.program.specs.declared.Outcome.the-variants as ended
 use Rattle.reporting.specs.Lines.{byte, tailText, bothText, refusedWord, outcomeWord, numbered, refusedLine, lastLine, modelLines, listing}
 
 -- ---- one byte

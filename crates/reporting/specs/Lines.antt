@@ -6,8 +6,8 @@ use Rattle.program.specs.declared.Program.{Program}
 use Rattle.program.specs.Names.{namesOf}
 use Rattle.program.specs.Values.{wordValues}
 use Rattle.text.specs.Lines.{lineOf, namesLine, valuesLine}
-use Rattle.search.specs.declared.Outcome.{Outcome}
-use Rattle.search.specs.declared.Outcome.the-variants.{Complete, Full, Spent, Refused}
+use Rattle.program.specs.declared.Outcome.{Outcome}
+use Rattle.program.specs.declared.Outcome.the-variants.{Complete, Full, Spent, Refused}
 
 -- the bytes of "refused", and of the word for each outcome: "complete", "full", "spent"
 unfoldable pub refusedWord : List ℕ

@@ -14,9 +14,9 @@ ghost use Rattle.text.specs.Lines.{namesLine, valuesLine};
 ghost use Rattle.reporting.specs.Lines.{byte, endText, tailText, countsText, bothText, outcomeWord, refusedWord, refusedLine, modelLines, lastLine};
 ghost use Rattle.reporting.specs.Printing.{mostBytes, Prints};
 ghost use Rattle.reporting.specs.Report.{searchText, allowance, lent, reportOf, PrintsSearch};
+use program::Outcome;
 use program::Program;
-use search::Outcome;
-use text::Verdict;
+use program::Verdict;
 
 // A slice of so many bytes has room for every text that is printed.
 pub const MOST_BYTES: usize = 103_000;

@@ -14,8 +14,8 @@ use borrow.Author.Tests.{lt-ltb, le-ltb, ltb-true, ltb-false}
 use Rattle.sets.specs.Least.{least, leastFrom}
 use Rattle.sets.proofs.Tests.{dec}
 use Rattle.sets.proofs.Least.{least-suc}
-use Rattle.search.specs.declared.Outcome.{Outcome}
-use Rattle.search.specs.declared.Outcome.the-variants.{Complete, Full, Spent, Refused}
+use Rattle.program.specs.declared.Outcome.{Outcome}
+use Rattle.program.specs.declared.Outcome.the-variants.{Complete, Full, Spent, Refused}
 use Rattle.search.specs.declared.SearchAnswer.{SearchAnswer}
 use Rattle.search.specs.Tree.{Node, hits}
 use Rattle.search.specs.Answer.{answer, overfull, fullAt, runAnswer, listing, runExit}

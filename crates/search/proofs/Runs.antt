@@ -21,7 +21,7 @@ use Rattle.program.proofs.Validity.{valid-names, valid-clauses}
 use Rattle.semantics.specs.Definitions.{PStable}
 use Rattle.semantics.specs.Interpretations.{rulesOf, isStable, models}
 use Rattle.stable.proofs.Decides.{stable-PStable, PStable-stable}
-use Rattle.search.specs.declared.Outcome.the-variants.{Complete, Full, Spent, Refused}
+use Rattle.program.specs.declared.Outcome.the-variants.{Complete, Full, Spent, Refused}
 use Rattle.search.specs.declared.SearchAnswer.{SearchAnswer}
 use Rattle.search.specs.Tree.{Node, Dead, dead, tree, nodeCount, hits, stableLeaves}
 use Rattle.search.specs.Answer.{answer, overfull, fullAt, runAnswer, listing, runExit, leafOf, nodesOf, refusal, answerOf, exitOf, listed, Searches, Ends}

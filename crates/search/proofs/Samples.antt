@@ -5,7 +5,7 @@ use Rattle.sets.specs.Lists.{anyOf}
 use Rattle.program.specs.Clauses.{Clause}
 use Rattle.program.specs.Values.{wordOf, clauseOfValues, wordBy, bitsOf}
 use Rattle.semantics.specs.Books.{book, ⟨_·_⟩, clausesOf}
-use Rattle.search.specs.declared.Outcome.the-variants.{Complete, Full, Spent}
+use Rattle.program.specs.declared.Outcome.the-variants.{Complete, Full, Spent}
 use Rattle.search.specs.Tree.{dead, nodes, tree, nodeCount, isStableLeaf}
 use Rattle.search.specs.Answer.{answer, runAnswer, listing, runExit}
 

@@ -9,7 +9,7 @@ use lib.Dec.{ltb}
 use lib.Pow.{pow-pos}
 use lib.ListN.{length, set}
 use borrow.Author.Tests.{lt-ltb, le-ltb, ltb-true, ltb-false}
-use Rattle.search.specs.declared.Outcome.the-variants.{Full, Spent}
+use Rattle.program.specs.declared.Outcome.the-variants.{Full, Spent}
 use Rattle.search.specs.Tree.{Node, node, Dead, nodes}
 use Rattle.search.specs.Answer.{answer}
 use Rattle.search.specs.Seek.{noLeaf, spent, fromWord, sought, after}

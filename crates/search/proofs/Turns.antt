@@ -5,7 +5,7 @@ use Prim.Native.Nat.{ℕ, _+_, _-_, _*_, _^_, _≤_, _<_}
 use native.Mathlib.Omega.{arith}
 use lib.ListN.{length, set, length-set}
 use Rattle.program.specs.Clauses.{Clause}
-use Rattle.search.specs.declared.Outcome.the-variants.{Complete, Full, Spent}
+use Rattle.program.specs.declared.Outcome.the-variants.{Complete, Full, Spent}
 use Rattle.search.specs.declared.SearchAnswer.{SearchAnswer}
 use Rattle.search.specs.Tree.{Dead, tree, isStableLeaf}
 use Rattle.search.specs.Answer.{answer, Ends}

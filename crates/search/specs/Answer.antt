@@ -10,8 +10,8 @@ use Rattle.program.specs.declared.Program.{Program}
 use Rattle.program.specs.Clauses.{Clause, clauses}
 use Rattle.program.specs.Valid.{valid}
 use Rattle.program.specs.Refusals.{lowest}
-use Rattle.search.specs.declared.Outcome.{Outcome}
-use Rattle.search.specs.declared.Outcome.the-variants.{Complete, Full, Spent, Refused}
+use Rattle.program.specs.declared.Outcome.{Outcome}
+use Rattle.program.specs.declared.Outcome.the-variants.{Complete, Full, Spent, Refused}
 use Rattle.search.specs.declared.SearchAnswer.{SearchAnswer}
 use Rattle.search.specs.Tree.{Node, Dead, dead, tree, isStableLeaf, hits}
 
@@ -76,13 +76,6 @@ exitOf p A l = cond (eqb (refusal p) 0) (runExit (leafOf p) (nodesOf p) A l) l
 -- "What a run lists is the words it wrote from the start of its lent list, as many as its answer counts as written"
 unfoldable pub listed : Program → ℕ → List ℕ → List ℕ
 listed p A l = take (answerOf p A l .written) (exitOf p A l)
-
--- "A refusal carries its number"; 0 for every other outcome
-unfoldable pub refusedBy : Outcome → ℕ
-refusedBy Complete = 0
-refusedBy Full = 0
-refusedBy Spent = 0
-refusedBy (Refused n) = n
 
 -- the contract of the search: the answer and the list at exit, outright
 pub record Searches (p : Program) (A : ℕ) (l₀ : List ℕ) (a : SearchAnswer) (l : List ℕ) : Type 0 where

@@ -12,15 +12,8 @@ ghost use Rattle.search.specs.Answer.{answer, Searches, Ends};
 ghost use Rattle.search.specs.Packed.{packedRows, Packs};
 ghost use Rattle.search.specs.Leaf.{rulesOut, supports, supported, smallerBetween};
 ghost use Rattle.search.specs.Seek.{Placed, Ticked, Sought};
+use program::Outcome;
 use program::Program;
-
-// How a search ended; document 01's outcomes.
-pub enum Outcome {
-    Complete,
-    Full,
-    Spent,
-    Refused(u8),
-}
 
 // What a search answers.
 pub struct SearchAnswer {

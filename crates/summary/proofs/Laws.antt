@@ -14,7 +14,7 @@ use Rattle.program.specs.declared.Program.{Program}
 use Rattle.program.specs.Values.{isWord}
 use Rattle.program.specs.Refusals.{lowest}
 use Rattle.program.specs.Valid.{valid}
-use Rattle.text.specs.declared.Verdict.the-variants.{Accepted}
+use Rattle.program.specs.declared.Verdict.the-variants.{Accepted}
 use Rattle.summary.specs.declared.Summary.{Summary}
 use Rattle.summary.specs.Summary.{occurringIn, isSettled, shownAt, settledAt, refusal, refusedSummary, summaryWith, summaryOf}
 

@@ -9,7 +9,7 @@ use Rattle.sets.specs.Lists.{Some}
 use Rattle.sets.specs.Words.{bit}
 use Rattle.program.specs.declared.Program.{Program}
 use Rattle.program.specs.Values.{valueIn}
-use Rattle.text.specs.declared.Verdict.the-variants.{Accepted, Refused}
+use Rattle.program.specs.declared.Verdict.the-variants.{Accepted, Refused}
 use Rattle.summary.specs.declared.Summary.{Summary}
 use Rattle.summary.specs.Summary.{refusal}
 

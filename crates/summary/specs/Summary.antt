@@ -9,7 +9,7 @@ use Rattle.program.specs.declared.Program.{Program}
 use Rattle.program.specs.Values.{isWord, valueIn}
 use Rattle.program.specs.Refusals.{lowest}
 use Rattle.program.specs.Valid.{valid}
-use Rattle.text.specs.declared.Verdict.the-variants.{Accepted, Refused}
+use Rattle.program.specs.declared.Verdict.the-variants.{Accepted, Refused}
 use Rattle.summary.specs.declared.Summary.{Summary}
 
 -- the value v occurs for the name i in the words

@@ -6,7 +6,7 @@ ghost use Rattle.sets.specs.Lists.{every, tabulate};
 ghost use Rattle.program.specs.Values.{isWord, valueIn};
 ghost use Rattle.summary.specs.Summary.{occurs, occurringIn, isSettled, bitIf, shownAt, settledAt, refusedSummary, summaryOf};
 use program::Program;
-use text::Verdict;
+use program::Verdict;
 
 // Bit v of `occurring[i]`: atom i takes the value v in some word.
 pub struct Summary {

@@ -15,7 +15,7 @@ use Rattle.program.specs.Names.{isName}
 use Rattle.program.specs.Refusals.{lowest}
 use Rattle.program.specs.declared.Program.{Program}
 use Rattle.program.specs.Values.{wordBy, clauseOfValues}
-use Rattle.text.specs.declared.Verdict.the-variants.{Refused, Accepted}
+use Rattle.program.specs.declared.Verdict.the-variants.{Refused, Accepted}
 use Rattle.text.specs.Lines.{HasLine, names, clauseLines, row}
 use Rattle.text.specs.Tables.{placed, tableOf, zeroTable}
 use Rattle.text.specs.Refusals.{wrongSize, unended, hasForeign, tooManyLines, namesBroken, namesEqual, lineHolds, clauseBroken, onlyZeros, refusal}

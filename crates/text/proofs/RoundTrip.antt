@@ -15,12 +15,13 @@ use Rattle.program.specs.Names.{namesOf}
 use Rattle.program.specs.Values.{clauseOfValues, clauseValues, sumFor}
 use Rattle.program.specs.Valid.{valid, Sized}
 use Rattle.program.proofs.Values.{value-sum}
-use Rattle.text.specs.declared.Verdict.the-variants.{Accepted, Refused}
+use Rattle.program.specs.declared.Verdict.the-variants.{Accepted, Refused}
 use Rattle.text.specs.Lines.{names, clauseLines, row}
 use Rattle.text.specs.Tables.{tableOf, zeroTable}
 use Rattle.text.specs.Render.{bookText, valuesOf, render}
 use Rattle.text.specs.Refusals.{refusal}
-use Rattle.text.specs.Reading.{refusedBy, programOf, readOf, IsAccepted}
+use Rattle.text.specs.Reading.{programOf, readOf, IsAccepted}
+use Rattle.program.specs.Refusals.{refusedBy}
 use Rattle.text.proofs.Books.{text-back, names-again, rows-again}
 use Rattle.text.proofs.Tables.{names-of-table, rows-of-table, all-values, values-of-table, table-back, clauses-again, good-table, valid-with, sized-with}
 use Rattle.text.proofs.Accepts.{accept-text, good-read}

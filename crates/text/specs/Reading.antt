@@ -7,16 +7,10 @@ use lib.Dec.{eqb}
 use Rattle.program.specs.declared.Program.{Program}
 use Rattle.program.specs.Values.{clauseOfValues}
 use Rattle.text.specs.declared.Read.{Read}
-use Rattle.text.specs.declared.Verdict.{Verdict}
-use Rattle.text.specs.declared.Verdict.the-variants.{Accepted, Refused}
+use Rattle.program.specs.declared.Verdict.the-variants.{Accepted, Refused}
 use Rattle.text.specs.Lines.{names, clauseLines, row}
 use Rattle.text.specs.Tables.{tableOf, zeroTable}
 use Rattle.text.specs.Refusals.{refusal}
-
--- "A refusal carries its number": the number of a verdict, 0 where the input is accepted
-abbrev pub refusedBy : Verdict → ℕ
-refusedBy Accepted = 0
-refusedBy (Refused r) = r
 
 -- the table of a text that no refusal meets: the names on its first line, and for each further line the clause with its values
 unfoldable pub programOf : List ℕ → Program

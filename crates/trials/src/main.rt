@@ -6,10 +6,10 @@ ghost use Prim.Native.Nat.{_≤_, _<_};
 ghost use Rattle.io.specs.Counts.{Counts};
 use decimal::Parsed;
 use libc::STDOUT_FILENO;
+use program::Outcome;
 use program::Program;
-use search::Outcome;
+use program::Verdict;
 use stable::Checked;
-use text::Verdict;
 use text::Written;
 
 // What the places of a lent list, and the bytes of a lent text, hold before a call.

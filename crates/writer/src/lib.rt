@@ -246,7 +246,7 @@ pub fn write_program(p: Program, out: &mut [u8]) -> Written
     let nafs = p.nafs;
     let size = names_length(&names, n) + clauses_length(&heads, &bodies, &nafs, m, n);
     if out.len() < size {
-        return Written::Refused(text::SLICE_TOO_SHORT);
+        return Written::Refused(program::SLICE_TOO_SHORT);
     }
     let r = put_text(out, &names, &heads, &bodies, &nafs, n, m);
     Written::Length(r)

@@ -1,23 +1,23 @@
 -- `commands::refused_by` meets its contract. Assumes nothing.
-use Rattle.search.specs.Answer.{refusedBy}
+use Rattle.program.specs.Refusals.{endedBy}
 use Rattle.commands.proofs.Rules.{rules}
 use Rattle.commands.proofs.refused_by.Statement.{statement}
 use Rattle.commands.proofs.refused_by.Tie as tie
 
 returns : tie.Need-returns
-unfolding refusedBy
+unfolding endedBy
 returns c = search rules
 
 returns-2 : tie.Need-returns-2
-unfolding refusedBy
+unfolding endedBy
 returns-2 c = search rules
 
 returns-3 : tie.Need-returns-3
-unfolding refusedBy
+unfolding endedBy
 returns-3 c = search rules
 
 returns-4 : tie.Need-returns-4
-unfolding refusedBy
+unfolding endedBy
 returns-4 c = search rules
 
 pub refused-by-spec : {M : Type 1} → statement M

@@ -1,6 +1,6 @@
 -- `reporting::put_word` meets its contract. Assumes nothing.
 use mathlib.Core.Path.{refl}
-use Rattle.search.specs.declared.Outcome.the-variants.{Complete, Full, Spent}
+use Rattle.program.specs.declared.Outcome.the-variants.{Complete, Full, Spent}
 use Rattle.reporting.specs.Lines.{outcomeWord}
 use Rattle.reporting.proofs.Texts.{word-room, word-wrote}
 use Rattle.reporting.proofs.Rules.{rules}
