@@ -15,10 +15,10 @@ use lib.ListN.{length, take}
 use Rattle.sets.specs.Lists.{_∈_, Each, sift, upFrom, tabulate}
 use Rattle.sets.proofs.Lists.{map-in}
 use Rattle.program.specs.declared.Program.{Program}
-use Rattle.program.specs.Clauses.{Clause, Below, clauseAt, rowsOf, rows, clauses}
+use Rattle.program.specs.Clauses.{Clause, Below, clauseAt, rows, clauses}
 use Rattle.program.specs.Valid.{valid, Sized}
 use Rattle.program.specs.Refusals.{lowest}
-use Rattle.program.proofs.Clauses.{length-rows}
+use Rattle.sets.proofs.Lists.{length-tabulate}
 use Rattle.program.proofs.Validity.{valid-names, valid-clauses, valid-below}
 use Rattle.rising.specs.RisingSets.{gather}
 use Rattle.rising.specs.Slices.{Kept}
@@ -95,12 +95,12 @@ from-rows hs bs ns zero k = refl
 from-rows hs bs ns (suc n) k = ap (λ (l : List Clause). clauseAt hs bs ns k ∷ l) (from-rows hs bs ns n (k + 1) ∙ ap (upFrom (clauseAt hs bs ns) n) (add-one k))
 
 pub rows-from : (p : Program) → clausesFrom (p .heads) (p .bodies) (p .nafs) 0 (p .«clause_count») ≡ clauses p
-unfolding clauses rows rowsOf tabulate
+unfolding clauses rows tabulate
 rows-from p = from-rows (p .heads) (p .bodies) (p .nafs) (p .«clause_count») 0
 
 length-from : (hs bs ns : List ℕ) (n : ℕ) → length (clausesFrom hs bs ns 0 n) ≡ n
-unfolding rowsOf tabulate
-length-from hs bs ns n = ap length (from-rows hs bs ns n 0) ∙ length-rows hs bs ns n
+unfolding tabulate
+length-from hs bs ns n = ap length (from-rows hs bs ns n 0) ∙ length-tabulate (clauseAt hs bs ns) n
 
 pub table-book : (p : Program) → Sized p → valid p ≡ true → Book (literalsOf p) (p .heads) (p .bodies) (p .nafs) (p .«clause_count»)
 table-book p s v =

@@ -2,6 +2,5 @@
 pub mod Values
 pub mod Places
 pub mod Validity
-pub mod Clauses
 pub mod Lowest
 pub mod Rules

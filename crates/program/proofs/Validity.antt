@@ -10,7 +10,7 @@ use Rattle.sets.proofs.Tests.{both-true}
 use Rattle.sets.proofs.Lists.{every-each}
 use Rattle.lists.specs.Bytes.{distinct}
 use Rattle.program.specs.declared.Program.{Program}
-use Rattle.program.specs.Clauses.{Clause, Below, rowsOf, rows, clauses}
+use Rattle.program.specs.Clauses.{Clause, Below, rows, clauses, clauseAt}
 use Rattle.program.specs.Values.{isWord}
 use Rattle.program.specs.Names.{place}
 use Rattle.program.specs.Valid.{zeroFrom, isPlace, namesValid, isClause, clausesValid, valid}
@@ -34,7 +34,7 @@ module _ (hs bs ns : List ℕ) (count n : ℕ) where
   unfolding clausesValid
   clauses-many h = rw (lt-leb count 64 h)
 
-  pub clauses-are : (a b c d : Bool) → count ≤ 64 → a ≡ every (isClause n) (rowsOf hs bs ns count)
+  pub clauses-are : (a b c d : Bool) → count ≤ 64 → a ≡ every (isClause n) (tabulate (clauseAt hs bs ns) count)
       → b ≡ zeroFrom count hs → c ≡ zeroFrom count bs → d ≡ zeroFrom count ns → a && b && c && d ≡ clausesValid hs bs ns count n
   unfolding clausesValid
   clauses-are a b c d h e f g k = rw (le-leb count 64 h, ← e, ← f, ← g, ← k)
@@ -54,7 +54,7 @@ pub record NamesParts (xs : List ℕ) (n : ℕ) : Type 0 where
 
 pub record ClausesParts (hs bs ns : List ℕ) (count n : ℕ) : Type 0 where
   pub short : count ≤ 64
-  pub ruled : every (isClause n) (rowsOf hs bs ns count) ≡ true
+  pub ruled : every (isClause n) (tabulate (clauseAt hs bs ns) count) ≡ true
   pub no-heads : zeroFrom count hs ≡ true
   pub no-bodies : zeroFrom count bs ≡ true
   pub no-nafs : zeroFrom count ns ≡ true
@@ -71,7 +71,7 @@ names-parts xs n h =
 clauses-parts : (hs bs ns : List ℕ) (count n : ℕ) → clausesValid hs bs ns count n ≡ true → ClausesParts hs bs ns count n
 unfolding clausesValid
 clauses-parts hs bs ns count n h =
-    let r = every (isClause n) (rowsOf hs bs ns count) in
+    let r = every (isClause n) (tabulate (clauseAt hs bs ns) count) in
     let a = both-true (leb count 64) (r && zeroFrom count hs && zeroFrom count bs && zeroFrom count ns) h in
     let b = both-true (r && zeroFrom count hs && zeroFrom count bs) (zeroFrom count ns) (a .1) in
     let c = both-true (r && zeroFrom count hs) (zeroFrom count bs) (b .0) in
@@ -101,4 +101,4 @@ clause-below n c h =
 pub valid-below : (p : Program) → valid p ≡ true → Each (Below (2 * p .«atom_count»)) (clauses p)
 unfolding clauses rows
 valid-below p v c m =
-    clause-below (p .«atom_count») c (every-each (isClause (p .«atom_count»)) (rowsOf (p .heads) (p .bodies) (p .nafs) (p .«clause_count»)) (valid-clauses p v .ruled) c m)
+    clause-below (p .«atom_count») c (every-each (isClause (p .«atom_count»)) (tabulate (clauseAt (p .heads) (p .bodies) (p .nafs)) (p .«clause_count»)) (valid-clauses p v .ruled) c m)

@@ -14,6 +14,8 @@ pub record Clause : Type 0 where
 abbrev pub clauseOf : ℕ → ℕ → ℕ → Clause
 clauseOf h b n = record { head = h; body = b; naf = n }
 
+-- Clauses in arrays are a layout, which gives the clause at each place: `tabulate layout count` are the first count of them.
+-- The layout of three columns, heads, bodies and not-parts:
 abbrev pub clauseAt : List ℕ → List ℕ → List ℕ → ℕ → Clause
 clauseAt hs bs ns k = clauseOf (getD hs k 0) (getD bs k 0) (getD ns k 0)
 
@@ -23,15 +25,10 @@ pub record Below (m : ℕ) (c : Clause) : Type 0 where
   pub bodies : c .body < 2 ^ m
   pub nafs : c .naf < 2 ^ m
 
--- the first count clauses of three columns
-unfoldable pub rowsOf : List ℕ → List ℕ → List ℕ → ℕ → List Clause
-unfolding tabulate
-rowsOf hs bs ns count = tabulate (clauseAt hs bs ns) count
-
 -- the table's clauses, numbered from 0 as they stand in the book
 unfoldable pub rows : Program → List Clause
-unfolding rowsOf
-rows p = rowsOf (p .heads) (p .bodies) (p .nafs) (p .«clause_count»)
+unfolding tabulate
+rows p = tabulate (clauseAt (p .heads) (p .bodies) (p .nafs)) (p .«clause_count»)
 
 -- the clauses that count: all of them
 unfoldable pub clauses : Program → List Clause

@@ -8,7 +8,7 @@ use lib.ListN.{length, take, drop}
 use Rattle.sets.specs.Lists.{every, tabulate}
 use Rattle.lists.specs.Bytes.{index, distinct}
 use Rattle.program.specs.declared.Program.{Program}
-use Rattle.program.specs.Clauses.{Clause, rowsOf}
+use Rattle.program.specs.Clauses.{Clause, clauseAt}
 use Rattle.program.specs.Values.{isWord}
 use Rattle.program.specs.Names.{isName, place}
 
@@ -36,7 +36,7 @@ isClause n c =
 unfoldable pub clausesValid : List ℕ → List ℕ → List ℕ → ℕ → ℕ → Bool
 clausesValid hs bs ns count n =
     leb count 64
-    && (every (isClause n) (rowsOf hs bs ns count) && zeroFrom count hs && zeroFrom count bs && zeroFrom count ns)
+    && (every (isClause n) (tabulate (clauseAt hs bs ns) count) && zeroFrom count hs && zeroFrom count bs && zeroFrom count ns)
 
 -- the table is one that the reader could give
 unfoldable pub valid : Program → Bool

@@ -4,7 +4,7 @@ ghost use Prim.Native.Nat.{_+_, _%_, _≤_, _<_};
 ghost use lib.ListN.{take};
 ghost use Rattle.sets.specs.Lists.{every, anyOf, onward, tabulate};
 ghost use Rattle.lists.specs.Bytes.{same, distinct};
-ghost use Rattle.program.specs.Clauses.{clauseOf, rowsOf};
+ghost use Rattle.program.specs.Clauses.{clauseOf, clauseAt};
 ghost use Rattle.program.specs.Values.{isWord, valueIn};
 ghost use Rattle.program.specs.Names.{isLetter, isPlain, isName, place};
 ghost use Rattle.program.specs.Valid.{zeroFrom, isPlace, namesValid, isClause, clausesValid, valid};
@@ -268,7 +268,7 @@ fn clauses_hold<'a>(
     n: usize,
 ) -> bool
     requires { ⌜ count ≤ 64 ⌝ }
-    ensures { λ r. ⌜ r ≡ every (isClause n) (rowsOf (now (heads .entry)) (now (bodies .entry)) (now (nafs .entry)) count) ⌝ }
+    ensures { λ r. ⌜ r ≡ every (isClause n) (tabulate (clauseAt (now (heads .entry)) (now (bodies .entry)) (now (nafs .entry))) count) ⌝ }
 {
     let mut k: usize = 0;
     while k < count {

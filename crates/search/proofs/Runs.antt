@@ -9,12 +9,12 @@ use lib.Dec.{ltb}
 use lib.ListN.{length, take, drop, length-take, length-drop, length-append, take-append-drop}
 use lib.Seq.{take-append-seam, drop-append-seam, take-all}
 use borrow.Author.Tests.{ltb-true, ltb-false, not-true, not-false}
-use Rattle.sets.specs.Lists.{Begins}
+use Rattle.sets.specs.Lists.{Begins, tabulate}
 use Rattle.sets.specs.Words.{bit}
 use Rattle.sets.proofs.Tests.{dec, clash}
 use Rattle.sets.proofs.Rising.{begins-append, begins-take}
 use Rattle.program.specs.declared.Program.{Program}
-use Rattle.program.specs.Clauses.{Clause, clauses, rows, rowsOf}
+use Rattle.program.specs.Clauses.{Clause, clauses, rows, clauseAt}
 use Rattle.program.specs.Valid.{valid}
 use Rattle.program.specs.Refusals.{lowest}
 use Rattle.program.proofs.Validity.{valid-names, valid-clauses}
@@ -141,7 +141,7 @@ module _ (p : Program) (A : ℕ) (l : List ℕ) where
   searched {v} {a} {m} {t} e h k q =
       let u = sym e ∙ not-false v h in
       let r = accepted u in
-      let w : Ends (dead (rowsOf (p .heads) (p .bodies) (p .nafs) (p .«clause_count»))) (rowsOf (p .heads) (p .bodies) (p .nafs) (p .«clause_count»)) (p .«atom_count») A l a m =
+      let w : Ends (dead (tabulate (clauseAt (p .heads) (p .bodies) (p .nafs)) (p .«clause_count»))) (tabulate (clauseAt (p .heads) (p .bodies) (p .nafs)) (p .«clause_count»)) (p .«atom_count») A l a m =
       rw (packed-rows (p .heads) (p .bodies) (p .nafs) t (p .«clause_count») k (valid-clauses p u .short)) at q in
       record { says = w .says ∙ sym (r .0); lists = w .lists ∙ sym (r .1) }
 

@@ -14,7 +14,7 @@ use Rattle.sets.proofs.Tests.{clash, both-true, and-is-true}
 use Rattle.sets.proofs.Least.{least-le, least-hit, least-miss}
 use Rattle.sets.proofs.Digits.{inside-bits}
 use Rattle.program.specs.declared.Program.{Program}
-use Rattle.program.specs.Clauses.{Clause, rowsOf, rows, clauses, noClause}
+use Rattle.program.specs.Clauses.{Clause, rows, clauses, noClause, clauseAt}
 use Rattle.program.specs.Values.{isWord}
 use Rattle.program.specs.Valid.{valid}
 use Rattle.program.proofs.Validity.{valid-clauses}
@@ -27,6 +27,7 @@ use Rattle.stable.specs.Check.{firstViolated, verdict, refusal, answerOf
 use Rattle.stable.proofs.Readings.{Satisfies-satisfies, satisfies-Satisfies, isModel-Model, Model-isModel}
 use Rattle.stable.proofs.Decides.{stable-PStable, PStable-stable}
 use Rattle.stable.proofs.Checking.{model-least, first-violated-is}
+use Rattle.sets.specs.Lists.{tabulate}
 
 -- ---- what is violated, what is smaller, what is p-stable
 module _ (P : List Clause) (I : ℕ) where
@@ -129,7 +130,7 @@ module _ (p : Program) (w : ℕ) where
       answered (Refused 10) (rw (g, l))
 
   pub checked : {v b : Bool} {r : Checked} → v ≡ valid p → not v ≡ false → b ≡ isWord (p .«atom_count») w → not b ≡ false
-      → r ≡ verdict (rowsOf (p .heads) (p .bodies) (p .nafs) (p .«clause_count»)) (rowsOf (p .heads) (p .bodies) (p .nafs) (p .«clause_count»)) w → Checks p w r
+      → r ≡ verdict (tabulate (clauseAt (p .heads) (p .bodies) (p .nafs)) (p .«clause_count»)) (tabulate (clauseAt (p .heads) (p .bodies) (p .nafs)) (p .«clause_count»)) w → Checks p w r
   unfolding answerOf refusal lowest clauses rows
   checked {v} {b} {r} e h f k q =
       let g : valid p ≡ true = sym e ∙ not-false v h in

@@ -1,9 +1,10 @@
 // The check of one candidate against Definition 3.1.
+ghost use Rattle.sets.specs.Lists.{tabulate};
 ghost use mathlib.Core.Path.{_≡_};
 ghost use Prim.Native.Nat.{_≤_, _<_};
 ghost use Rattle.sets.specs.Words.{Inside, Next};
 ghost use Rattle.sets.specs.Least.{least};
-ghost use Rattle.program.specs.Clauses.{clauseOf, rowsOf};
+ghost use Rattle.program.specs.Clauses.{clauseOf, clauseAt};
 ghost use Rattle.semantics.specs.Interpretations.{violates, violatedAt, leastSmaller};
 ghost use Rattle.stable.specs.Check.{verdict, Checks};
 use program::Program;
@@ -33,7 +34,7 @@ fn first_violated<'a>(
     w: u32,
 ) -> usize
     requires { ⌜ count ≤ 64 ⌝ }
-    ensures { λ r. ⌜ r ≡ least (violatedAt (rowsOf (now (heads .entry)) (now (bodies .entry)) (now (nafs .entry)) count) by w) count ⌝ }
+    ensures { λ r. ⌜ r ≡ least (violatedAt (tabulate (clauseAt (now (heads .entry)) (now (bodies .entry)) (now (nafs .entry))) count) by w) count ⌝ }
 {
     let mut k: usize = 0;
     while k < count {
@@ -62,7 +63,7 @@ fn least_smaller<'a>(
     candidate: u32,
 ) -> u32
     requires { ⌜ count ≤ 64 ⌝ }
-    ensures { λ r. ⌜ r ≡ leastSmaller (rowsOf (now (heads .entry)) (now (bodies .entry)) (now (nafs .entry)) count) candidate ⌝ }
+    ensures { λ r. ⌜ r ≡ leastSmaller (tabulate (clauseAt (now (heads .entry)) (now (bodies .entry)) (now (nafs .entry))) count) candidate ⌝ }
 {
     let mut j: u32 = 0;
     while j < candidate {
@@ -82,7 +83,7 @@ fn check_clauses<'a>(
     candidate: u32,
 ) -> Checked
     requires { ⌜ count ≤ 64 ⌝ }
-    ensures { λ r. ⌜ r ≡ verdict (rowsOf (now (heads .entry)) (now (bodies .entry)) (now (nafs .entry)) count) (rowsOf (now (heads .entry)) (now (bodies .entry)) (now (nafs .entry)) count) candidate ⌝ }
+    ensures { λ r. ⌜ r ≡ verdict (tabulate (clauseAt (now (heads .entry)) (now (bodies .entry)) (now (nafs .entry))) count) (tabulate (clauseAt (now (heads .entry)) (now (bodies .entry)) (now (nafs .entry))) count) candidate ⌝ }
 {
     let v = first_violated(heads, bodies, nafs, count, candidate, candidate);
     if v < count {

@@ -19,7 +19,7 @@ use Rattle.lists.proofs.Loops.{same-true, same-self}
 use Rattle.lists.proofs.Pieces.{index-le}
 use Rattle.lists.proofs.Padding.{padded-long, padded-back, padded-tail, zeros-are}
 use Rattle.program.specs.declared.Program.{Program}
-use Rattle.program.specs.Clauses.{Clause, clauseAt, rowsOf, rows}
+use Rattle.program.specs.Clauses.{Clause, clauseAt, rows}
 use Rattle.program.specs.Names.{isName, place, nameAt, namesOf}
 use Rattle.program.specs.Values.{isWord, valueIn, wordOf, bitsOf, wordBy, clauseOfValues, clauseValue, clauseValues}
 use Rattle.program.specs.Valid.{zeroFrom, isPlace, namesValid, isClause, clausesValid, valid, Sized}
@@ -158,8 +158,8 @@ clauses-up H B F x y z (r ∷ cs) i a b c =
     (rw (first-of H _ _ i a, first-of B _ _ i b, first-of F _ _ i c))
     (clauses-up H B F x y z cs (suc i) (rest-of H _ _ i a) (rest-of B _ _ i b) (rest-of F _ _ i c))
 
-clauses-of : (cs : List Clause) → rowsOf (padded 64 (map (λ c. c .head) cs)) (padded 64 (map (λ c. c .body) cs)) (padded 64 (map (λ c. c .naf) cs)) (length cs) ≡ cs
-unfolding padded rowsOf tabulate
+clauses-of : (cs : List Clause) → tabulate (clauseAt (padded 64 (map (λ c. c .head) cs)) (padded 64 (map (λ c. c .body) cs)) (padded 64 (map (λ c. c .naf) cs))) (length cs) ≡ cs
+unfolding padded tabulate
 clauses-of cs = clauses-up _ _ _ _ _ _ cs 0 refl refl refl
 
 pub rows-of-table : (ns : List (List ℕ)) (cs : List Clause) → rows (tableOf ns cs) ≡ cs
@@ -270,7 +270,7 @@ module _ (p : Program) (s : Sized p) (v : valid p ≡ true) where
 
   -- the table of its names and clauses is the table
   pub table-back : tableOf (namesOf p) (rows p) ≡ p
-  unfolding tableOf namesOf rows rowsOf tabulate
+  unfolding tableOf namesOf rows tabulate
   table-back =
       let t = valid-clauses p v in
       let n = p .«atom_count» in
@@ -364,7 +364,7 @@ rows-told n (c ∷ cs) h =
     rw (told-here n c (a .0), rows-told n cs (a .1))
 
 pub good-table : (p : Program) → Sized p → valid p ≡ true → Good (namesOf p) (valuesOf p)
-unfolding namesOf valuesOf rows rowsOf tabulate
+unfolding namesOf valuesOf rows tabulate
 good-table p s v =
     let t = valid-names p v in
     let u = valid-clauses p v in

@@ -19,7 +19,7 @@ use Rattle.lists.proofs.Writing.{Put, put-start, put-step, put-byte, put-done, 
 use Rattle.lists.proofs.Padding.{over-padded}
 use Rattle.decimal.specs.Decimal.{decimal, Measures}
 use Rattle.program.specs.declared.Program.{Program}
-use Rattle.program.specs.Clauses.{Clause, clauseAt, rowsOf, rows}
+use Rattle.program.specs.Clauses.{Clause, clauseAt, rows}
 use Rattle.program.specs.Names.{place, nameAt, namesOf}
 use Rattle.program.specs.Values.{valueIn, clauseValue, clauseValues}
 use Rattle.program.specs.Refusals.{lowest}
@@ -247,7 +247,7 @@ module _ (c : Clause) where
 -- ---- lines, one behind the other
 module _ (hs bs ns : List ℕ) (n m : ℕ) where
   abbrev pub linesText : List ℕ
-  linesText = flatMap valuesLine (map (clauseValues n) (rowsOf hs bs ns m))
+  linesText = flatMap valuesLine (map (clauseValues n) (tabulate (clauseAt hs bs ns) m))
 
   -- the lines from k on
   unfoldable pub linesFrom : ℕ → List ℕ
@@ -257,7 +257,7 @@ module _ (hs bs ns : List ℕ) (n m : ℕ) where
   lineAt k = valuesLine (clauseValues n (clauseAt hs bs ns k))
 
   all-lines : linesText ≡ linesFrom 0
-  unfolding linesFrom rowsOf
+  unfolding linesFrom
   all-lines = ap (λ (l : List Clause). flatMap valuesLine (map (clauseValues n) l)) (sym (onward-start (clauseAt hs bs ns) m))
 
   lines-next : (k : ℕ) → k < m → linesFrom k ≡ lineAt k ++ linesFrom (k + 1)
@@ -334,7 +334,7 @@ pub text-wrote : (ns vss : List (List ℕ)) (xs : List ℕ) (a b : ℕ) (ys ws :
 unfolding bookText
 text-wrote ns vss xs a b ys ws = two-texts xs (namesLine ns) (flatMap valuesLine vss) a b ys ws
 
-pub text-is : (p : Program) → bookText (tabulate (nameAt (p .«atom_names»)) (p .«atom_count»)) (map (clauseValues (p .«atom_count»)) (rowsOf (p .heads) (p .bodies) (p .nafs) (p .«clause_count»))) ≡ render p
+pub text-is : (p : Program) → bookText (tabulate (nameAt (p .«atom_names»)) (p .«atom_count»)) (map (clauseValues (p .«atom_count»)) (tabulate (clauseAt (p .heads) (p .bodies) (p .nafs)) (p .«clause_count»))) ≡ render p
 unfolding render namesOf valuesOf rows
 text-is p = refl
 

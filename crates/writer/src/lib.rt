@@ -6,7 +6,7 @@ ghost use lib.ListN.{length, getD};
 ghost use Rattle.decimal.specs.Decimal.{decimal};
 ghost use Rattle.sets.specs.Lists.{tabulate};
 ghost use Rattle.lists.specs.Bytes.{Wrote};
-ghost use Rattle.program.specs.Clauses.{clauseOf, rowsOf};
+ghost use Rattle.program.specs.Clauses.{clauseOf, clauseAt};
 ghost use Rattle.program.specs.Names.{nameAt};
 ghost use Rattle.program.specs.Values.{valueIn, clauseValue, clauseValues};
 ghost use Rattle.text.specs.Lines.{namesLine, valuesLine};
@@ -143,8 +143,8 @@ fn put_clause_lines<'a>(
     m: usize,
     n: usize,
 ) -> usize
-    requires { ⌜ (1 ≤ n) × (n ≤ 12) × (m ≤ 64) × (length (flatMap valuesLine (map (clauseValues n) (rowsOf (now heads) (now bodies) (now nafs) m))) ≤ length (now out)) ⌝ }
-    ensures { λ r. ⌜ Wrote (flatMap valuesLine (map (clauseValues n) (rowsOf (now (heads .entry)) (now (bodies .entry)) (now (nafs .entry)) m))) (now (out .entry)) r (now (out .exit)) ⌝ }
+    requires { ⌜ (1 ≤ n) × (n ≤ 12) × (m ≤ 64) × (length (flatMap valuesLine (map (clauseValues n) (tabulate (clauseAt (now heads) (now bodies) (now nafs)) m))) ≤ length (now out)) ⌝ }
+    ensures { λ r. ⌜ Wrote (flatMap valuesLine (map (clauseValues n) (tabulate (clauseAt (now (heads .entry)) (now (bodies .entry)) (now (nafs .entry))) m))) (now (out .entry)) r (now (out .exit)) ⌝ }
 {
     let mut at: usize = 0;
     let mut k: usize = 0;
@@ -166,8 +166,8 @@ fn put_text<'a>(
     n: usize,
     m: usize,
 ) -> usize
-    requires { ⌜ (1 ≤ n) × (n ≤ 12) × (m ≤ 64) × (length (bookText (tabulate (nameAt (now names)) n) (map (clauseValues n) (rowsOf (now heads) (now bodies) (now nafs) m))) ≤ length (now out)) ⌝ }
-    ensures { λ r. ⌜ Wrote (bookText (tabulate (nameAt (now (names .entry))) n) (map (clauseValues n) (rowsOf (now (heads .entry)) (now (bodies .entry)) (now (nafs .entry)) m))) (now (out .entry)) r (now (out .exit)) ⌝ }
+    requires { ⌜ (1 ≤ n) × (n ≤ 12) × (m ≤ 64) × (length (bookText (tabulate (nameAt (now names)) n) (map (clauseValues n) (tabulate (clauseAt (now heads) (now bodies) (now nafs)) m))) ≤ length (now out)) ⌝ }
+    ensures { λ r. ⌜ Wrote (bookText (tabulate (nameAt (now (names .entry))) n) (map (clauseValues n) (tabulate (clauseAt (now (heads .entry)) (now (bodies .entry)) (now (nafs .entry))) m))) (now (out .entry)) r (now (out .exit)) ⌝ }
 {
     let a = put_names_line(out, names, n);
     let b = put_clause_lines(&mut out[a..], heads, bodies, nafs, m, n);
@@ -220,7 +220,7 @@ fn clauses_length<'a>(
     n: usize,
 ) -> usize
     requires { ⌜ (1 ≤ n) × (n ≤ 12) × (m ≤ 64) ⌝ }
-    ensures { λ r. ⌜ Spans (flatMap valuesLine (map (clauseValues n) (rowsOf (now (heads .entry)) (now (bodies .entry)) (now (nafs .entry)) m))) 16128 r ⌝ }
+    ensures { λ r. ⌜ Spans (flatMap valuesLine (map (clauseValues n) (tabulate (clauseAt (now (heads .entry)) (now (bodies .entry)) (now (nafs .entry))) m))) 16128 r ⌝ }
 {
     let mut at: usize = 0;
     let mut k: usize = 0;

@@ -1,7 +1,7 @@
 -- `program::clauses_hold` meets its contract. Assumes nothing.
 use Prim.Native.Nat.{_-_}
 use Rattle.sets.proofs.Lists.{Kept}
-use Rattle.program.specs.Clauses.{clauseAt, rowsOf}
+use Rattle.program.specs.Clauses.{clauseAt}
 use Rattle.program.specs.Valid.{isClause}
 use Rattle.program.proofs.Rules.{rules}
 use Rattle.program.proofs.clauses_hold.Statement.{statement}
@@ -14,11 +14,9 @@ abbrev μ-loop : tie.MeasureT-loop
 μ-loop heads bodies nafs count n k₀ k = count - k
 
 returns : tie.Need-returns Inv-loop μ-loop
-unfolding rowsOf
 returns c = search rules
 
 returns-2 : tie.Need-returns-2 Inv-loop μ-loop
-unfolding rowsOf
 returns-2 c = search rules
 
 pub clauses-hold-spec : {M : Type 1} → statement M

@@ -1,14 +1,15 @@
 -- `stable::first_violated` meets its contract. Assumes nothing.
 use Prim.Native.Nat.{_-_}
 use Rattle.sets.proofs.Least.{Searched}
-use Rattle.program.specs.Clauses.{rowsOf}
+use Rattle.program.specs.Clauses.{clauseAt}
 use Rattle.semantics.specs.Interpretations.{violatedAt}
 use Rattle.stable.proofs.Rules.{rules}
 use Rattle.stable.proofs.first_violated.Statement.{statement}
 use Rattle.stable.proofs.first_violated.Tie as tie
+use Rattle.sets.specs.Lists.{tabulate}
 
 abbrev Inv-loop : tie.InvT-loop
-Inv-loop heads bodies nafs count by w k₀ k = Searched (violatedAt (rowsOf heads bodies nafs count) by w) count k
+Inv-loop heads bodies nafs count by w k₀ k = Searched (violatedAt (tabulate (clauseAt heads bodies nafs) count) by w) count k
 
 abbrev μ-loop : tie.MeasureT-loop
 μ-loop heads bodies nafs count by w k₀ k = count - k

@@ -2,14 +2,15 @@
 use Prim.Native.Nat.{_-_}
 use Rattle.sets.specs.Words.{Inside}
 use Rattle.sets.proofs.Least.{Searched}
-use Rattle.program.specs.Clauses.{rowsOf}
+use Rattle.program.specs.Clauses.{clauseAt}
 use Rattle.semantics.specs.Interpretations.{reduct, smaller}
 use Rattle.stable.proofs.Rules.{rules}
 use Rattle.stable.proofs.least_smaller.Statement.{statement}
 use Rattle.stable.proofs.least_smaller.Tie as tie
+use Rattle.sets.specs.Lists.{tabulate}
 
 abbrev Inv-loop : tie.InvT-loop
-Inv-loop heads bodies nafs count candidate j₀ j = Searched (smaller (reduct (rowsOf heads bodies nafs count) candidate) candidate) candidate j × Inside j candidate
+Inv-loop heads bodies nafs count candidate j₀ j = Searched (smaller (reduct (tabulate (clauseAt heads bodies nafs) count) candidate) candidate) candidate j × Inside j candidate
 
 abbrev μ-loop : tie.MeasureT-loop
 μ-loop heads bodies nafs count candidate j₀ j = candidate - j

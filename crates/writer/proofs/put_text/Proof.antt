@@ -5,7 +5,7 @@ use Prim.Native.Nat.{_+_}
 use native.Mathlib.Omega.{arith}
 use lib.ListN.{length, length-take, length-drop}
 use Rattle.sets.specs.Lists.{tabulate}
-use Rattle.program.specs.Clauses.{rowsOf}
+use Rattle.program.specs.Clauses.{clauseAt}
 use Rattle.program.specs.Names.{nameAt}
 use Rattle.program.specs.Values.{clauseValues}
 use Rattle.text.specs.Lines.{namesLine, valuesLine}
@@ -15,7 +15,7 @@ use Rattle.writer.proofs.Rules.{rules}
 use Rattle.writer.proofs.put_text.Statement.{statement}
 use Rattle.writer.proofs.put_text.Tie as tie
 
-whole : (c : tie.Start) → let ns = tabulate (nameAt (c .args .names .now)) (c .args .n) in let vss = map (clauseValues (c .args .n)) (rowsOf (c .args .heads .now) (c .args .bodies .now) (c .args .nafs .now) (c .args .m)) in length (bookText ns vss) ≡ length (namesLine ns) + length (flatMap valuesLine vss)
+whole : (c : tie.Start) → let ns = tabulate (nameAt (c .args .names .now)) (c .args .n) in let vss = map (clauseValues (c .args .n)) (tabulate (clauseAt (c .args .heads .now) (c .args .bodies .now) (c .args .nafs .now)) (c .args .m)) in length (bookText ns vss) ≡ length (namesLine ns) + length (flatMap valuesLine vss)
 whole c = text-long _ _
 
 put-names-line-requires : tie.Need-put-names-line-requires

@@ -6,7 +6,7 @@ use Prim.Native.Nat.{_+_}
 use native.Mathlib.Omega.{arith}
 use lib.ListN.{length}
 use Rattle.sets.specs.Lists.{tabulate}
-use Rattle.program.specs.Clauses.{rowsOf}
+use Rattle.program.specs.Clauses.{clauseAt}
 use Rattle.program.specs.Names.{nameAt}
 use Rattle.program.specs.Values.{clauseValues}
 use Rattle.program.specs.Valid.{valid}
@@ -21,7 +21,7 @@ taken : (c : tie.Else1) → valid (c .before .before .before .args .p) ≡ true
 taken c = search rules
 
 sized : (c : tie.After-clauses-length) → c .before .before .before .before .names-length .result + c .clauses-length .result ≡ length (render (c .before .before .before .before .before .before .before .before .before .before .before .before .before .args .p))
-sized c = let p = c .before .before .before .before .before .before .before .before .before .before .before .before .before .args .p in omega (arith, c .before .before .before .before .names-length .ensures .is, c .clauses-length .ensures .is, text-long (tabulate (nameAt (p .«atom_names»)) (p .«atom_count»)) (map (clauseValues (p .«atom_count»)) (rowsOf (p .heads) (p .bodies) (p .nafs) (p .«clause_count»))), ap length (text-is p))
+sized c = let p = c .before .before .before .before .before .before .before .before .before .before .before .before .before .args .p in omega (arith, c .before .before .before .before .names-length .ensures .is, c .clauses-length .ensures .is, text-long (tabulate (nameAt (p .«atom_names»)) (p .«atom_count»)) (map (clauseValues (p .«atom_count»)) (tabulate (clauseAt (p .heads) (p .bodies) (p .nafs)) (p .«clause_count»))), ap length (text-is p))
 
 returns : tie.Need-returns
 returns c = writes9 _ _ (search rules)
