@@ -203,7 +203,7 @@ every-call (search p A l r) e = answers (told (search p A l r)) refl
     (λ d. ap (λ x. ofOutcome (x .outcome)) (e .says ∙ search-other p A (l .entry) d .0))
     (λ d. kept-one l (e .lists ∙ search-other p A (l .entry) d .1))
     (λ d. let q = e .says ∙ search-other p A (l .entry) d .0 in
-      zero-more (r .written) (r .visited ∷ []) (ap (λ x. x .written) q) (zero-more (r .visited) [] (ap (λ x. x .visited) q) (λ x m. absurd m)))
+    zero-more (r .written) (r .visited ∷ []) (ap (λ x. x .written) q) (zero-more (r .visited) [] (ap (λ x. x .visited) q) (λ x m. absurd m)))
     (λ x m. absurd m)
 every-call (fixpoint p l w v r) e = answers (told (fixpoint p l w v r)) refl
     (λ z. ap (λ x. ofOutcome (x .outcome)) (e .says) ∙ fix-zero p (l .entry) (w .entry) (v .entry) z)
