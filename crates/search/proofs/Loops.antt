@@ -4,43 +4,22 @@ use mathlib.Core.Bool.{Bool, true, false, _&&_, and-false}
 use mathlib.Core.Logic.{⊎-elim}
 use mathlib.Core.List.{List}
 use Prim.Native.Nat.{ℕ, zero, suc, _+_, _-_, _*_, _%_, _^_, _≤_, _<_}
-use native.Mathlib.Nat.{one-mul, add-zero, add-suc}
-use native.Mathlib.Numerals.{add-one}
+use native.Mathlib.Nat.{add-zero, add-suc}
 use native.Mathlib.Omega.{arith}
-use lib.Dec.{lit<, eqb, eqb·suc-zero}
+use lib.Dec.{eqb, eqb·suc-zero}
 use lib.Bits.{bitAnd, bitOr, and-mod, and-zero-l, and-zero-r, and-le-l, and-le-r, or-zero-l, or-add-and}
-use lib.Pow.{shl-exact}
 use borrow.Author.Tests.{eqb-true, eqb-false, eq-eqb, ne-eqb}
-use Rattle.sets.specs.Lists.{anyOf, upFrom, onward}
+use Rattle.sets.specs.Lists.{anyOf, onward, tabulate}
 use Rattle.sets.specs.Words.{Inside, inside, apart}
 use Rattle.sets.proofs.Tests.{dec}
-use Rattle.sets.proofs.Lists.{Lacks, lacks-start, lacks-not, lacks-more, lacks-done, onward-start}
+use Rattle.sets.proofs.Lists.{onward-start, onward-step, onward-done}
 use Rattle.program.specs.Clauses.{Clause, clauseOf}
 use Rattle.semantics.specs.Interpretations.{isStable}
 use Rattle.search.specs.Tree.{decided, deadBy, dead}
-use Rattle.search.specs.Packed.{packedAt, packedRows}
 use Rattle.search.specs.Leaf.{rulesOut, supports, supportFrom, supported}
 use Rattle.search.specs.Seek.{Placed}
 use Rattle.search.proofs.Nodes.{and-reach}
 use Rattle.search.proofs.Supported.{unsupported}
-
--- ---- a loop that looks for a clause that passes
-module _ (t : List ℕ) (n : ℕ) (p : Clause → Bool) where
-  rows-from : anyOf p (onward (packedAt t) n 0) ≡ anyOf p (packedRows t n)
-  unfolding packedRows
-  rows-from = ap (anyOf p) (onward-start (packedAt t) n)
-
-  pub look-start : Lacks (packedAt t) n p 0 0
-  look-start = lacks-start (packedAt t) n p 0
-
-  pub look-on : (i : ℕ) {r : Bool} → Lacks (packedAt t) n p 0 i → i < n → r ≡ p (packedAt t i) → r ≡ false → Lacks (packedAt t) n p 0 (i + 1)
-  look-on i s h e q = lacks-more (packedAt t) n p 0 i s h (sym e ∙ q)
-
-  pub look-hit : (i : ℕ) {r : Bool} → Lacks (packedAt t) n p 0 i → i < n → r ≡ p (packedAt t i) → r ≡ true → true ≡ anyOf p (packedRows t n)
-  look-hit i s h e q = lacks-not (packedAt t) n p 0 i s h (sym e ∙ q) ∙ rows-from
-
-  pub look-none : (i : ℕ) → Lacks (packedAt t) n p 0 i → n ≤ i → false ≡ anyOf p (packedRows t n)
-  look-none i s h = lacks-done (packedAt t) n p 0 i s h ∙ rows-from
 
 -- ---- the node test: every undecided bit is put into the word
 in-settled : (k w x : ℕ) → w % 2 ^ k ≡ 0 → decided k x && inside x w ≡ inside x w
@@ -111,30 +90,22 @@ module _ (h b n w x y : ℕ) (e : x ≡ bitAnd h w) (m : (y + 1) % 2 ^ 32 ≡ x)
   unfolding supports
   no-support z = rw (← e, sym tested ∙ ne-eqb _ 0 z)
 
--- the loop that gathers the support of each clause
-pub record Gathered (t : List ℕ) (n w i all : ℕ) : Type 0 where
-  pub within : i ≤ n
-  pub whole : supportFrom w (onward (packedAt t) n i) all ≡ supported (packedRows t n) w
+-- the loop that gathers the support of each clause, over any layout of n clauses
+pub record Gathered (at : ℕ → Clause) (n w i all : ℕ) : Type 0 where
+  pub whole : supportFrom w (onward at n i) all ≡ supported (tabulate at n) w
 
-module _ (t : List ℕ) (n w : ℕ) where
-  pub gather-none : Gathered t n w 0 0
-  unfolding supported packedRows
-  gather-none = record { within = omega arith; whole = ap (λ (P : List Clause). supportFrom w P 0) (onward-start (packedAt t) n) }
+module _ (at : ℕ → Clause) (n w : ℕ) where
+  pub gather-none : Gathered at n w 0 0
+  unfolding supported
+  gather-none = record { whole = ap (λ (P : List Clause). supportFrom w P 0) (onward-start at n) }
 
-  pub gather-one : (i all r : ℕ) → Gathered t n w i all → i < n → r ≡ supports w (packedAt t i) → Gathered t n w (i + 1) (bitOr all r)
-  unfolding supportFrom onward upFrom
-  gather-one i all r g h e = record {
-    within = omega arith;
-    whole = let q : n - i ≡ suc (n - (i + 1)) = omega arith in rw (add-one i, e) (rw (q, add-one i) at (g .whole));
-  }
+  pub gather-one : (i all r : ℕ) → Gathered at n w i all → i < n → r ≡ supports w (at i) → Gathered at n w (i + 1) (bitOr all r)
+  unfolding supportFrom
+  gather-one i all r g h e = record { whole = rw e (rw (onward-step at n i h) at (g .whole)) }
 
-  pub gather-all : (i all : ℕ) → Gathered t n w i all → n ≤ i → all ≡ supported (packedRows t n) w
-  unfolding supportFrom onward upFrom
-  gather-all i all g h = let q : n - i ≡ 0 = omega arith in rw q at (g .whole)
+  pub gather-all : (i all : ℕ) → Gathered at n w i all → n ≤ i → all ≡ supported (tabulate at n) w
+  unfolding supportFrom
+  gather-all i all g h = rw (onward-done at n i h) at (g .whole)
 
 pub leaf-unsupported : (P : List Clause) (w s : ℕ) → s ≡ supported P w → (bitAnd w s ≡ w → ⊥) → false ≡ isStable P w
 leaf-unsupported P w s e h = sym (unsupported P w (λ i. h (rw e i)))
-
--- ---- a bit as a word
-pub one-shl : (k : ℕ) → k ≤ 31 → 1 * 2 ^ k % 2 ^ 32 ≡ 2 ^ k
-one-shl k h = shl-exact 1 k 32 (lit< tt) (omega arith) ∙ one-mul (2 ^ k)

@@ -10,7 +10,7 @@ use Rattle.sets.specs.Lists.{tabulate}
 use Rattle.sets.proofs.Tests.{same?}
 use Rattle.sets.proofs.Lists.{upFrom-ext}
 use Rattle.program.specs.Clauses.{clauseAt}
-use Rattle.search.specs.Packed.{packedAt, packedRows, Packs}
+use Rattle.search.specs.Packed.{packedAt, Packs}
 
 -- the clauses below i are packed
 pub record Packing (hs bs ns : List ℕ) (i : ℕ) (t : List ℕ) : Type 0 where
@@ -63,6 +63,6 @@ module _ (hs bs ns : List ℕ) where
   pub pack-done : (i : ℕ) (t : List ℕ) → Packing hs bs ns i t → 64 ≤ i → Packs hs bs ns t
   pack-done i t s h = record { same = λ j l. s .same j (omega arith) }
 
-  pub packed-rows : (t : List ℕ) (n : ℕ) → Packs hs bs ns t → n ≤ 64 → packedRows t n ≡ tabulate (clauseAt hs bs ns) n
-  unfolding packedRows tabulate
-  packed-rows t n s h = upFrom-ext (packedAt t) (clauseAt hs bs ns) n 0 (λ j l. s .same j (omega arith))
+  pub packed-same : (t : List ℕ) (n : ℕ) → Packs hs bs ns t → n ≤ 64 → tabulate (packedAt t) n ≡ tabulate (clauseAt hs bs ns) n
+  unfolding tabulate
+  packed-same t n s h = upFrom-ext (packedAt t) (clauseAt hs bs ns) n 0 (λ j l. s .same j (omega arith))

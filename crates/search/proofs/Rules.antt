@@ -1,7 +1,9 @@
 -- What `search` is handed at the needs of this crate. Assumes nothing.
 use borrow.Author.Needs.{needs}
+use Rattle.sets.proofs.Tests.{via}
+use Rattle.sets.proofs.Lists.{lacks-start, lacks-more, lacks-not-all, lacks-all}
 use Rattle.search.proofs.Packing.{pack-start, pack-more, pack-done}
-use Rattle.search.proofs.Loops.{look-start, look-on, look-hit, look-none, node-tested, ruled-out, is-support, no-support, gather-none, gather-one, gather-all, leaf-unsupported}
+use Rattle.search.proofs.Loops.{node-tested, ruled-out, is-support, no-support, gather-none, gather-one, gather-all, leaf-unsupported}
 use Rattle.search.proofs.Subsets.{branch-cut, branch-end, leaf-tested, all-open}
 use Rattle.search.proofs.Visits.{tick-before, tick-spent, tick-one, seek-passed, seek-spent, seek-dead, seek-unstable, seek-leaf}
 use Rattle.search.proofs.Turns.{turn-start, turn-next, turn-above, turn-below, turn-falls}
@@ -12,10 +14,11 @@ pub ruleset rules = (
   pack-start,
   pack-more,
   pack-done,
-  look-start,
-  look-on,
-  look-hit,
-  look-none,
+  via,
+  lacks-start,
+  lacks-more,
+  lacks-not-all,
+  lacks-all,
   node-tested,
   ruled-out,
   is-support,

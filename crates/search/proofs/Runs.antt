@@ -25,8 +25,8 @@ use Rattle.program.specs.declared.Outcome.the-variants.{Complete, Full, Spent, 
 use Rattle.search.specs.declared.SearchAnswer.{SearchAnswer}
 use Rattle.search.specs.Tree.{Node, Dead, dead, tree, nodeCount, hits, stableLeaves}
 use Rattle.search.specs.Answer.{answer, overfull, fullAt, runAnswer, listing, runExit, leafOf, nodesOf, refusal, answerOf, exitOf, listed, Searches, Ends}
-use Rattle.search.specs.Packed.{packedRows, Packs}
-use Rattle.search.proofs.Packing.{packed-rows}
+use Rattle.search.specs.Packed.{packedAt, Packs}
+use Rattle.search.proofs.Packing.{packed-same}
 use Rattle.search.proofs.Nodes.{hits-append, leaves-models, unstable-below, count-nodes}
 
 -- ---- the tree
@@ -136,13 +136,13 @@ module _ (p : Program) (A : ℕ) (l : List ℕ) where
   no-table {v} e h q = let r = refused (sym e ∙ not-true v h) in record { says = q ∙ sym (r .0); lists = sym (r .1) }
 
   pub searched : {v : Bool} {a : SearchAnswer} {m t : List ℕ} → v ≡ valid p → not v ≡ false → Packs (p .heads) (p .bodies) (p .nafs) t
-      → Ends (dead (packedRows t (p .«clause_count»))) (packedRows t (p .«clause_count»)) (p .«atom_count») A l a m → Searches p A l a m
+      → Ends (dead (tabulate (packedAt t) (p .«clause_count»))) (tabulate (packedAt t) (p .«clause_count»)) (p .«atom_count») A l a m → Searches p A l a m
   unfolding clauses rows
   searched {v} {a} {m} {t} e h k q =
       let u = sym e ∙ not-false v h in
       let r = accepted u in
       let w : Ends (dead (tabulate (clauseAt (p .heads) (p .bodies) (p .nafs)) (p .«clause_count»))) (tabulate (clauseAt (p .heads) (p .bodies) (p .nafs)) (p .«clause_count»)) (p .«atom_count») A l a m =
-      rw (packed-rows (p .heads) (p .bodies) (p .nafs) t (p .«clause_count») k (valid-clauses p u .short)) at q in
+      rw (packed-same (p .heads) (p .bodies) (p .nafs) t (p .«clause_count») k (valid-clauses p u .short)) at q in
       record { says = w .says ∙ sym (r .0); lists = w .lists ∙ sym (r .1) }
 
 -- what the run asks of its table

@@ -2,18 +2,12 @@
 use mathlib.Core.Path.{_≡_}
 use mathlib.Core.List.{List}
 use Prim.Native.Nat.{ℕ, _+_, _<_}
-use lib.ListN.{length, getD}
-use Rattle.sets.specs.Lists.{tabulate}
+use lib.ListN.{getD}
 use Rattle.program.specs.Clauses.{Clause, clauseOf, clauseAt}
 
--- clause i of the array
+-- the layout of the array: clause i; its first count clauses are `tabulate (packedAt t) count`
 abbrev pub packedAt : List ℕ → ℕ → Clause
 packedAt t i = clauseOf (getD t i 0) (getD t (64 + i) 0) (getD t (128 + i) 0)
-
--- its first count clauses
-unfoldable pub packedRows : List ℕ → ℕ → List Clause
-unfolding tabulate
-packedRows t count = tabulate (packedAt t) count
 
 -- the array t holds the clauses of three columns
 pub record Packs (hs bs ns t : List ℕ) : Type 0 where

@@ -3,13 +3,13 @@ ghost use mathlib.Core.Path.{_≡_};
 ghost use mathlib.Core.Bool.{true, false};
 ghost use Prim.Native.Nat.{_+_, _-_, _*_, _^_, _≤_, _<_};
 ghost use lib.Bits.{bitOr};
-ghost use Rattle.sets.specs.Lists.{anyOf};
+ghost use Rattle.sets.specs.Lists.{anyOf, tabulate};
 ghost use Rattle.sets.specs.Words.{Inside, Highest};
 ghost use Rattle.program.specs.Clauses.{clauseOf};
 ghost use Rattle.semantics.specs.Interpretations.{isStable};
 ghost use Rattle.search.specs.Tree.{dead, nodes, isStableLeaf};
 ghost use Rattle.search.specs.Answer.{answer, Searches, Ends};
-ghost use Rattle.search.specs.Packed.{packedRows, Packs};
+ghost use Rattle.search.specs.Packed.{packedAt, Packs};
 ghost use Rattle.search.specs.Leaf.{rulesOut, supports, supported, smallerBetween};
 ghost use Rattle.search.specs.Seek.{Placed, Ticked, Sought};
 use program::Outcome;
@@ -49,7 +49,7 @@ fn rules_out(head: u32, body: u32, naf: u32, by: u32, w: u32, reach: u32) -> boo
 // Whether that is so of some clause.
 fn some_rules_out(table: &[u32; 192], count: usize, by: u32, w: u32, reach: u32) -> bool
     requires { ⌜ count ≤ 64 ⌝ }
-    ensures { λ r. ⌜ r ≡ anyOf (rulesOut by w reach) (packedRows (now (table .entry)) count) ⌝ }
+    ensures { λ r. ⌜ r ≡ anyOf (rulesOut by w reach) (tabulate (packedAt (now (table .entry))) count) ⌝ }
 {
     let mut i: usize = 0;
     while i < count {
@@ -73,7 +73,7 @@ fn with_undecided(k: usize, w: u32) -> u32
 // Whether the node is dead, where `reach` is the word with every undecided bit.
 fn node_dead(table: &[u32; 192], count: usize, k: usize, w: u32, reach: u32) -> bool
     requires { ⌜ (count ≤ 64) × Placed k w × (reach ≡ w + (2 ^ k - 1)) ⌝ }
-    ensures { λ r. ⌜ r ≡ dead (packedRows (now (table .entry)) count) k w ⌝ }
+    ensures { λ r. ⌜ r ≡ dead (tabulate (packedAt (now (table .entry))) count) k w ⌝ }
 {
     some_rules_out(table, count, reach, w, reach)
 }
@@ -94,7 +94,7 @@ fn support(head: u32, body: u32, naf: u32, w: u32) -> u32
 // The literals of `w` that some clause supports.
 fn support_of(table: &[u32; 192], count: usize, w: u32) -> u32
     requires { ⌜ count ≤ 64 ⌝ }
-    ensures { λ r. ⌜ r ≡ supported (packedRows (now (table .entry)) count) w ⌝ }
+    ensures { λ r. ⌜ r ≡ supported (tabulate (packedAt (now (table .entry))) count) w ⌝ }
 {
     let mut all: u32 = 0;
     let mut i: usize = 0;
@@ -117,7 +117,7 @@ fn highest(x: u32) -> u32
 // The bits of `undecided` are decided from the highest, out before in; a branch is left where a clause is violated by all below it.
 fn has_smaller(table: &[u32; 192], count: usize, by: u32, held: u32, undecided: u32) -> bool
     requires { ⌜ (count ≤ 64) × Inside (bitOr held undecided) by ⌝ }
-    ensures { λ r. ⌜ r ≡ smallerBetween (packedRows (now (table .entry)) count) by held undecided ⌝ }
+    ensures { λ r. ⌜ r ≡ smallerBetween (tabulate (packedAt (now (table .entry))) count) by held undecided ⌝ }
 {
     if some_rules_out(table, count, by, held, held | undecided) {
         return false;
@@ -136,8 +136,8 @@ fn has_smaller(table: &[u32; 192], count: usize, by: u32, held: u32, undecided: 
 // Whether a live leaf is p-stable: its literals are supported, and no smaller subset satisfies the reduct.
 fn leaf_stable(table: &[u32; 192], count: usize, w: u32) -> bool
     requires { ⌜ count ≤ 64 ⌝ }
-    requires { ⌜ dead (packedRows (now table) count) 0 w ≡ false ⌝ }
-    ensures { λ r. ⌜ r ≡ isStable (packedRows (now (table .entry)) count) w ⌝ }
+    requires { ⌜ dead (tabulate (packedAt (now table)) count) 0 w ≡ false ⌝ }
+    ensures { λ r. ⌜ r ≡ isStable (tabulate (packedAt (now (table .entry))) count) w ⌝ }
 {
     if w & support_of(table, count, w) != w {
         return false;
@@ -188,7 +188,7 @@ fn seek(
     visited: &mut u64,
 ) -> u32
     requires { ⌜ (count ≤ 64) × Placed k w × (reach ≡ w + (2 ^ k - 1)) ⌝ }
-    ensures { λ r. ⌜ Sought (isStableLeaf (dead (packedRows (now (table .entry)) count)) (packedRows (now (table .entry)) count)) limit from (nodes (dead (packedRows (now (table .entry)) count)) k w) (now (visited .entry)) r (now (visited .exit)) ⌝ }
+    ensures { λ r. ⌜ Sought (isStableLeaf (dead (tabulate (packedAt (now (table .entry))) count)) (tabulate (packedAt (now (table .entry))) count)) limit from (nodes (dead (tabulate (packedAt (now (table .entry))) count)) k w) (now (visited .entry)) r (now (visited .exit)) ⌝ }
 {
     if reach < from {
         return NONE;
@@ -232,7 +232,7 @@ fn search_clauses(
     models: &mut [u32],
 ) -> SearchAnswer
     requires { ⌜ (count ≤ 64) × (n ≤ 12) ⌝ }
-    ensures { λ r. ⌜ Ends (dead (packedRows (now (table .entry)) count)) (packedRows (now (table .entry)) count) n «node_limit» (now (models .entry)) r (now (models .exit)) ⌝ }
+    ensures { λ r. ⌜ Ends (dead (tabulate (packedAt (now (table .entry))) count)) (tabulate (packedAt (now (table .entry))) count) n «node_limit» (now (models .entry)) r (now (models .exit)) ⌝ }
 {
     let k = 2 * n;
     let reach = with_undecided(k, 0);

@@ -1,7 +1,8 @@
 -- `search::search_clauses` meets its contract: each turn of the loop seeks the next p-stable leaf, and goes on behind it. Assumes nothing.
 use Prim.Native.Nat.{_-_, _^_}
+use Rattle.sets.specs.Lists.{tabulate}
 use Rattle.search.specs.Tree.{dead}
-use Rattle.search.specs.Packed.{packedRows}
+use Rattle.search.specs.Packed.{packedAt}
 use Rattle.search.proofs.Visits.{placed-root}
 use Rattle.search.proofs.Turns.{Searching, turn-none, turn-spent, turn-full}
 use Rattle.search.proofs.Rules.{turning}
@@ -10,7 +11,7 @@ use Rattle.search.proofs.search_clauses.Tie as tie
 
 abbrev Inv-loop : tie.InvT-loop
 Inv-loop table count n node-limit models₀ k reach written₀ visited₀ from₀ models written visited from =
-    Searching (dead (packedRows table count)) (packedRows table count) node-limit n models₀ from written visited models
+    Searching (dead (tabulate (packedAt table) count)) (tabulate (packedAt table) count) node-limit n models₀ from written visited models
 
 abbrev μ-loop : tie.MeasureT-loop
 μ-loop table count n node-limit models₀ k reach written₀ visited₀ from₀ models written visited from = 2 ^ 24 - from

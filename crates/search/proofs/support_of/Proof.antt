@@ -1,12 +1,13 @@
 -- `search::support_of` meets its contract. Assumes nothing.
 use Prim.Native.Nat.{_-_}
+use Rattle.search.specs.Packed.{packedAt}
 use Rattle.search.proofs.Loops.{Gathered}
 use Rattle.search.proofs.Rules.{rules}
 use Rattle.search.proofs.support_of.Statement.{statement}
 use Rattle.search.proofs.support_of.Tie as tie
 
 abbrev Inv-loop : tie.InvT-loop
-Inv-loop table count w all₀ i₀ all i = Gathered table count w i all
+Inv-loop table count w all₀ i₀ all i = Gathered (packedAt table) count w i all
 
 abbrev μ-loop : tie.MeasureT-loop
 μ-loop table count w all₀ i₀ all i = count - i
