@@ -17,7 +17,7 @@ use Rattle.program.specs.Clauses.{Clause, clauseOf}
 use Rattle.semantics.specs.Interpretations.{isStable}
 use Rattle.search.specs.Tree.{decided, deadBy, dead}
 use Rattle.search.specs.Leaf.{rulesOut, supports, supportFrom, supported}
-use Rattle.search.specs.Seek.{Placed}
+use Rattle.search.specs.Seek.{AtNode}
 use Rattle.search.proofs.Nodes.{and-reach}
 use Rattle.search.proofs.Supported.{unsupported}
 
@@ -42,10 +42,10 @@ dead-test : (k w : ℕ) → w % 2 ^ k ≡ 0 → (c : Clause) → rulesOut (w + (
 unfolding rulesOut deadBy
 dead-test k w z c = rw (in-settled k w (c .body) z, out-settled k w (c .naf) z, out-settled k w (c .head) z)
 
-pub node-tested : (P : List Clause) (k w : ℕ) {reach : ℕ} {r : Bool} → Placed k w → reach ≡ w + (2 ^ k - 1) → r ≡ anyOf (rulesOut reach w reach) P → r ≡ dead P k w
+pub node-tested : (P : List Clause) (k w : ℕ) {count reach : ℕ} {r : Bool} → AtNode count k w reach → r ≡ anyOf (rulesOut reach w reach) P → r ≡ dead P k w
 unfolding dead
-node-tested P k w {reach} p e q =
-    q ∙ ap (λ (x : ℕ). anyOf (rulesOut x w x) P) e ∙ ap (λ (f : Clause → Bool). anyOf f P) (fun-ext (dead-test k w (p .low)))
+node-tested P k w at q =
+    q ∙ ap (λ (x : ℕ). anyOf (rulesOut x w x) P) (at .reaches) ∙ ap (λ (f : Clause → Bool). anyOf f P) (fun-ext (dead-test k w (at .placed .low)))
 
 -- ---- several words are zero where their union is
 or-zero : (a b : ℕ) → eqb (bitOr a b) 0 ≡ eqb a 0 && eqb b 0

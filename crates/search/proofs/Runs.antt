@@ -146,5 +146,9 @@ module _ (p : Program) (A : ℕ) (l : List ℕ) where
       record { says = w .says ∙ sym (r .0); lists = w .lists ∙ sym (r .1) }
 
 -- what the run asks of its table
-pub asks : (p : Program) {v : Bool} → v ≡ valid p → not v ≡ false → (p .«clause_count» ≤ 64) × (p .«atom_count» ≤ 12)
-asks p {v} e h = let t = sym e ∙ not-false v h in (valid-clauses p t .short, valid-names p t .few)
+module _ (p : Program) {v : Bool} (e : v ≡ valid p) (h : not v ≡ false) where
+  pub few-clauses : p .«clause_count» ≤ 64
+  few-clauses = valid-clauses p (sym e ∙ not-false v h) .short
+
+  pub few-atoms : p .«atom_count» ≤ 12
+  few-atoms = valid-names p (sym e ∙ not-false v h) .few

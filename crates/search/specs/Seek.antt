@@ -2,7 +2,7 @@
 use mathlib.Core.Path.{_≡_}
 use mathlib.Core.Bool.{Bool, cond, not, _&&_}
 use mathlib.Core.List.{List, [], _∷_}
-use Prim.Native.Nat.{ℕ, _+_, _%_, _^_, _≤_}
+use Prim.Native.Nat.{ℕ, _+_, _-_, _%_, _^_, _≤_}
 use lib.Dec.{ltb}
 use Rattle.search.specs.Tree.{Node}
 
@@ -48,3 +48,9 @@ pub record Placed (k w : ℕ) : Type 0 where
   pub few : k ≤ 24
   pub low : w % 2 ^ k ≡ 0
   pub fits : w + 2 ^ k ≤ 2 ^ 24
+
+-- what a visit of the node (k, w) is handed: at most 64 clauses, and the word with every undecided bit
+pub record AtNode (count k w reach : ℕ) : Type 0 where
+  pub short : count ≤ 64
+  pub placed : Placed k w
+  pub reaches : reach ≡ w + (2 ^ k - 1)

@@ -11,7 +11,7 @@ ghost use Rattle.search.specs.Tree.{dead, nodes, isStableLeaf};
 ghost use Rattle.search.specs.Answer.{answer, Searches, Ends};
 ghost use Rattle.search.specs.Packed.{packedAt, Packs};
 ghost use Rattle.search.specs.Leaf.{rulesOut, supports, supported, smallerBetween};
-ghost use Rattle.search.specs.Seek.{Placed, Ticked, Sought};
+ghost use Rattle.search.specs.Seek.{Placed, AtNode, Ticked, Sought};
 use program::Outcome;
 use program::Program;
 
@@ -72,7 +72,7 @@ fn with_undecided(k: usize, w: u32) -> u32
 
 // Whether the node is dead, where `reach` is the word with every undecided bit.
 fn node_dead(table: &[u32; 192], count: usize, k: usize, w: u32, reach: u32) -> bool
-    requires { ⌜ (count ≤ 64) × Placed k w × (reach ≡ w + (2 ^ k - 1)) ⌝ }
+    requires { ⌜ AtNode count k w reach ⌝ }
     ensures { λ r. ⌜ r ≡ dead (tabulate (packedAt (now (table .entry))) count) k w ⌝ }
 {
     some_rules_out(table, count, reach, w, reach)
@@ -184,16 +184,16 @@ fn seek(
     w: u32,
     reach: u32,
     from: u32,
-    limit: u64,
+    node_limit: u64,
     visited: &mut u64,
 ) -> u32
-    requires { ⌜ (count ≤ 64) × Placed k w × (reach ≡ w + (2 ^ k - 1)) ⌝ }
-    ensures { λ r. ⌜ Sought (isStableLeaf (dead (tabulate (packedAt (now (table .entry))) count)) (tabulate (packedAt (now (table .entry))) count)) limit from (nodes (dead (tabulate (packedAt (now (table .entry))) count)) k w) (now (visited .entry)) r (now (visited .exit)) ⌝ }
+    requires { ⌜ AtNode count k w reach ⌝ }
+    ensures { λ r. ⌜ Sought (isStableLeaf (dead (tabulate (packedAt (now (table .entry))) count)) (tabulate (packedAt (now (table .entry))) count)) «node_limit» from (nodes (dead (tabulate (packedAt (now (table .entry))) count)) k w) (now (visited .entry)) r (now (visited .exit)) ⌝ }
 {
     if reach < from {
         return NONE;
     }
-    if tick(w, from, limit, visited) {
+    if tick(w, from, node_limit, visited) {
         return SPENT;
     }
     if node_dead(table, count, k, w, reach) {
@@ -206,11 +206,29 @@ fn seek(
         return NONE;
     }
     let bit = next_bit(k);
-    let first = seek(table, count, k - 1, w, reach - bit, from, limit, visited);
+    let first = seek(
+        table,
+        count,
+        k - 1,
+        w,
+        reach - bit,
+        from,
+        node_limit,
+        visited,
+    );
     if first != NONE {
         return first;
     }
-    seek(table, count, k - 1, w + bit, reach, from, limit, visited)
+    seek(
+        table,
+        count,
+        k - 1,
+        w + bit,
+        reach,
+        from,
+        node_limit,
+        visited,
+    )
 }
 
 fn ended(outcome: Outcome, written: usize, visited: u64) -> SearchAnswer
