@@ -45,12 +45,6 @@ pub up-to : (c : ℕ) (xs : List ℕ) (n : ℕ) → EndsAt xs c 0 n → length (
 up-to c xs n e = length-take-le n xs (omega (arith, e .to))
 
 -- ---- places
-pub place-is : (xs : List ℕ) (n : ℕ) (a b : Bool) → EndsAt xs 0 0 n → a ≡ isName (take n xs) → b ≡ zeroFrom n xs → a && b ≡ isPlace xs
-unfolding isPlace
-place-is xs n a b e f g =
-    let h : n ≡ index 0 xs = e .is ∙ end-zero 0 xs in
-    ap₂ _&&_ (f ∙ ap (λ (k : ℕ). isName (take k xs)) h) (g ∙ ap (λ (k : ℕ). zeroFrom k xs) h)
-
 pub place-part : (xs : List ℕ) (i : ℕ) → take (8 * i + 8 - 8 * i) (drop (8 * i) xs) ≡ place xs i
 unfolding place
 place-part xs i = let e : 8 * i + 8 - 8 * i ≡ 8 = omega arith in rw e

@@ -278,7 +278,7 @@ fn search_clauses(
 pub fn search(p: Program, node_limit: u64, models: &mut [u32]) -> SearchAnswer
     ensures { λ r. ⌜ Searches p «node_limit» (now (models .entry)) r (now (models .exit)) ⌝ }
 {
-    if !program::is_valid(p) {
+    if !validity::is_valid(p) {
         return ended(Outcome::Refused(program::INVALID_PROGRAM), 0, 0);
     }
     let n = p.atom_count;

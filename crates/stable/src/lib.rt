@@ -100,7 +100,7 @@ fn check_clauses<'a>(
 pub fn check(p: Program, candidate: u32) -> Checked
     ensures { λ r. ⌜ Checks p candidate r ⌝ }
 {
-    if !program::is_valid(p) {
+    if !validity::is_valid(p) {
         return Checked::Refused(program::INVALID_PROGRAM);
     }
     let n = p.atom_count;

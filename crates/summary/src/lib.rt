@@ -134,7 +134,7 @@ fn refused(number: u8) -> Summary
 pub fn summarize(p: Program, words: &[u32]) -> Summary
     ensures { λ r. ⌜ r ≡ summaryOf p (now (words .entry)) ⌝ }
 {
-    if !program::is_valid(p) {
+    if !validity::is_valid(p) {
         return refused(program::INVALID_PROGRAM);
     }
     let n = p.atom_count;

@@ -1,10 +1,10 @@
--- `program::place_holds` meets its contract. Assumes nothing.
+-- `validity::place_holds` meets its contract. Assumes nothing.
 use mathlib.Core.Path.{ap, _∙_}
 use Rattle.program.specs.Valid.{isPlace}
 use Rattle.program.proofs.Places.{place-part}
-use Rattle.program.proofs.Rules.{rules}
-use Rattle.program.proofs.place_holds.Statement.{statement}
-use Rattle.program.proofs.place_holds.Tie as tie
+use Rattle.validity.proofs.Rules.{rules}
+use Rattle.validity.proofs.place_holds.Statement.{statement}
+use Rattle.validity.proofs.place_holds.Tie as tie
 
 returns : tie.Need-returns
 returns c = c .is-place .ensures ∙ ap isPlace (place-part _ (c .before .before .before .args .i))

@@ -1,8 +1,8 @@
--- `program::clause_holds` meets its contract. Assumes nothing.
+-- `validity::clause_holds` meets its contract. Assumes nothing.
 use Rattle.program.specs.Valid.{isClause}
-use Rattle.program.proofs.Rules.{rules}
-use Rattle.program.proofs.clause_holds.Statement.{statement}
-use Rattle.program.proofs.clause_holds.Tie as tie
+use Rattle.validity.proofs.Rules.{rules}
+use Rattle.validity.proofs.clause_holds.Statement.{statement}
+use Rattle.validity.proofs.clause_holds.Tie as tie
 
 returns : tie.Need-returns
 unfolding isClause

@@ -1,12 +1,12 @@
--- `program::zero_bytes` meets its contract. Assumes nothing.
+-- `validity::zero_bytes` meets its contract. Assumes nothing.
 use Prim.Native.Nat.{_-_}
 use lib.Dec.{eqb}
 use lib.ListN.{length}
 use Rattle.lists.proofs.Loops.{Held}
 use Rattle.program.specs.Valid.{zeroFrom}
-use Rattle.program.proofs.Rules.{rules}
-use Rattle.program.proofs.zero_bytes.Statement.{statement}
-use Rattle.program.proofs.zero_bytes.Tie as tie
+use Rattle.validity.proofs.Rules.{rules}
+use Rattle.validity.proofs.zero_bytes.Statement.{statement}
+use Rattle.validity.proofs.zero_bytes.Tie as tie
 
 abbrev Inv-loop : tie.InvT-loop
 Inv-loop s from i₀ i = Held s (eqb 0) from i

@@ -1,11 +1,11 @@
--- `program::places_hold` meets its contract. Assumes nothing.
+-- `validity::places_hold` meets its contract. Assumes nothing.
 use Prim.Native.Nat.{_-_}
 use Rattle.sets.proofs.Lists.{Kept}
 use Rattle.program.specs.Names.{place}
 use Rattle.program.specs.Valid.{isPlace}
-use Rattle.program.proofs.Rules.{rules}
-use Rattle.program.proofs.places_hold.Statement.{statement}
-use Rattle.program.proofs.places_hold.Tie as tie
+use Rattle.validity.proofs.Rules.{rules}
+use Rattle.validity.proofs.places_hold.Statement.{statement}
+use Rattle.validity.proofs.places_hold.Tie as tie
 
 abbrev Inv-loop : tie.InvT-loop
 Inv-loop names n i₀ i = Kept (place names) n isPlace i

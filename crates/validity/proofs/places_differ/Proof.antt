@@ -1,10 +1,10 @@
--- `program::places_differ` meets its contract. Assumes nothing.
+-- `validity::places_differ` meets its contract. Assumes nothing.
 use Prim.Native.Nat.{_-_}
 use Rattle.lists.proofs.Loops.{Single}
 use Rattle.program.specs.Names.{place}
-use Rattle.program.proofs.Rules.{rules}
-use Rattle.program.proofs.places_differ.Statement.{statement}
-use Rattle.program.proofs.places_differ.Tie as tie
+use Rattle.validity.proofs.Rules.{rules}
+use Rattle.validity.proofs.places_differ.Statement.{statement}
+use Rattle.validity.proofs.places_differ.Tie as tie
 
 abbrev Inv-loop : tie.InvT-loop
 Inv-loop names n i₀ i = Single (place names) n i

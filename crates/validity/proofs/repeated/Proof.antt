@@ -1,11 +1,11 @@
--- `program::repeated` meets its contract. Assumes nothing.
+-- `validity::repeated` meets its contract. Assumes nothing.
 use Prim.Native.Nat.{_+_, _-_}
 use Rattle.sets.proofs.Lists.{Lacks}
 use Rattle.lists.specs.Bytes.{same}
 use Rattle.program.specs.Names.{place}
-use Rattle.program.proofs.Rules.{rules}
-use Rattle.program.proofs.repeated.Statement.{statement}
-use Rattle.program.proofs.repeated.Tie as tie
+use Rattle.validity.proofs.Rules.{rules}
+use Rattle.validity.proofs.repeated.Statement.{statement}
+use Rattle.validity.proofs.repeated.Tie as tie
 
 abbrev Inv-loop : tie.InvT-loop
 Inv-loop names n i j₀ j = Lacks (place names) n (same (place names i)) (i + 1) j

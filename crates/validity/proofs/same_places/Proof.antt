@@ -1,10 +1,10 @@
--- `program::same_places` meets its contract. Assumes nothing.
+-- `validity::same_places` meets its contract. Assumes nothing.
 use mathlib.Core.Path.{ap₂, _∙_}
 use Rattle.lists.specs.Bytes.{same}
 use Rattle.program.proofs.Places.{place-part}
-use Rattle.program.proofs.Rules.{rules}
-use Rattle.program.proofs.same_places.Statement.{statement}
-use Rattle.program.proofs.same_places.Tie as tie
+use Rattle.validity.proofs.Rules.{rules}
+use Rattle.validity.proofs.same_places.Statement.{statement}
+use Rattle.validity.proofs.same_places.Tie as tie
 
 returns : tie.Need-returns
 returns c = let a = c .before .before .before .before .args in c .same-bytes .ensures ∙ ap₂ same (place-part _ (a .i)) (place-part _ (a .j))

@@ -1,11 +1,11 @@
--- `program::clauses_hold` meets its contract. Assumes nothing.
+-- `validity::clauses_hold` meets its contract. Assumes nothing.
 use Prim.Native.Nat.{_-_}
 use Rattle.sets.proofs.Lists.{Kept}
 use Rattle.program.specs.Clauses.{clauseAt}
 use Rattle.program.specs.Valid.{isClause}
-use Rattle.program.proofs.Rules.{rules}
-use Rattle.program.proofs.clauses_hold.Statement.{statement}
-use Rattle.program.proofs.clauses_hold.Tie as tie
+use Rattle.validity.proofs.Rules.{rules}
+use Rattle.validity.proofs.clauses_hold.Statement.{statement}
+use Rattle.validity.proofs.clauses_hold.Tie as tie
 
 abbrev Inv-loop : tie.InvT-loop
 Inv-loop heads bodies nafs count n k₀ k = Kept (clauseAt heads bodies nafs) count (isClause n) k
