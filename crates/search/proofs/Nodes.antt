@@ -89,16 +89,6 @@ unfolding dead anyOf isModel reduct
 live-leaf [] w = refl
 live-leaf (c ∷ P) w = model-cons c P w w ∙ rw (live-leaf P w, dead-one w c) (sym (not-or (violates w w c) (dead P 0 w)))
 
--- no proper subset of I satisfies the reduct by I
-unfoldable pub isMinimal : List Clause → ℕ → Bool
-unfolding leastSmaller
-isMinimal P I = eqb (leastSmaller P I) I
-
--- p-stable: live, and no smaller subset satisfies the reduct
-pub stable-leaf : (P : List Clause) (w : ℕ) → isStable P w ≡ not (dead P 0 w) && isMinimal P w
-unfolding isStable isMinimal
-stable-leaf P w = rw (live-leaf P w)
-
 -- ---- the p-stable leaves of a tree, for a dead test below whose dead nodes no leaf is p-stable
 pub hits-append : (hit : Node → Bool) (xs ys : List Node) → hits hit (xs ++ ys) ≡ hits hit xs ++ hits hit ys
 unfolding hits

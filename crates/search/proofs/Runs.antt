@@ -25,8 +25,8 @@ use Rattle.program.specs.declared.Outcome.the-variants.{Complete, Full, Spent, 
 use Rattle.search.specs.declared.SearchAnswer.{SearchAnswer}
 use Rattle.search.specs.Tree.{Node, Dead, dead, tree, nodeCount, hits, stableLeaves}
 use Rattle.search.specs.Answer.{answer, overfull, fullAt, runAnswer, listing, runExit, leafOf, nodesOf, refusal, answerOf, exitOf, listed, Searches, Ends}
-use Rattle.search.specs.Packed.{packedAt, Packs}
-use Rattle.search.proofs.Packing.{packed-same}
+use Rattle.leaf.specs.Packed.{packedAt, Packs}
+use Rattle.leaf.proofs.Packing.{packed-same}
 use Rattle.search.proofs.Nodes.{hits-append, leaves-models, unstable-below, count-nodes}
 
 -- ---- the tree

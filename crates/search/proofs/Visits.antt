@@ -12,10 +12,10 @@ use lib.Pow.{pow-pos, pow-mono}
 use borrow.Author.Tests.{lt-ltb, le-ltb, eq-eqb, ne-eqb, eqb-true, not-true, not-false}
 use Rattle.sets.proofs.Tests.{dec, both-true}
 use Rattle.program.specs.Clauses.{Clause}
-use Rattle.semantics.specs.Interpretations.{isStable}
+use Rattle.semantics.specs.Interpretations.{reduct, isModel, isStable}
 use Rattle.search.specs.Tree.{Node, node, Dead, dead, nodes, isStableLeaf}
 use Rattle.search.specs.Seek.{stops, counted, Ticked, Sought, Placed, AtNode, noLeaf, spent, fromWord, sought, after}
-use Rattle.search.proofs.Nodes.{low-out, low-in}
+use Rattle.search.proofs.Nodes.{low-out, low-in, live-leaf}
 use Rattle.search.proofs.Seeking.{All, all-map, all-fromWord, nodes-between, fromWord-append, fromWord-none, sought-append, sought-first}
 
 -- ---- the children of a node
@@ -101,8 +101,8 @@ leaf-is : (D : Dead) (P : List Clause) (k w : ℕ) → k ≡ 0 → D k w ≡ fal
 unfolding isStableLeaf
 leaf-is D P k w z d = rw (d, eq-eqb k 0 z)
 
-pub leaf-live : (P : List Clause) (k w : ℕ) {r : Bool} → r ≡ dead P k w → r ≡ false → k ≡ 0 → dead P 0 w ≡ false
-leaf-live P k w e t z = rw z at (sym e) ∙ t
+pub leaf-live : (P : List Clause) (k w : ℕ) {r : Bool} → r ≡ dead P k w → r ≡ false → k ≡ 0 → isModel (reduct P w) w ≡ true
+leaf-live P k w e t z = live-leaf P w ∙ ap not (rw z at (sym e) ∙ t)
 
 pub leaf-undecided : (D : Dead) (P : List Clause) (x : Node) → isStableLeaf D P x ≡ true → x .undecided ≡ 0
 unfolding isStableLeaf

@@ -6,7 +6,7 @@ use Rattle.search.proofs.Rules.{seeking}
 use Rattle.search.proofs.seek.Reads as seek
 use Rattle.search.proofs.seek.Kinds as seek-kinds
 use Rattle.search.proofs.+seek.Lts-seek as lts
-use Rattle.search.proofs.leaf_stable.Reads as leaf-stable-reads
+use Rattle.leaf.proofs.leaf_stable.Reads as leaf-stable-reads
 use Rattle.search.proofs.next_bit.Reads as next-bit-reads
 use Rattle.search.proofs.node_dead.Reads as node-dead-reads
 use Rattle.search.proofs.tick.Reads as tick-reads

@@ -2,7 +2,7 @@
 use Prim.Native.Nat.{_-_}
 use native.Mathlib.Omega.{arith}
 use Rattle.sets.proofs.Highest.{one-shl}
-use Rattle.search.proofs.Rules.{rules}
+use Rattle.search.proofs.Rules.{seeking}
 use Rattle.search.proofs.next_bit.Statement.{statement}
 use Rattle.search.proofs.next_bit.Tie as tie
 
@@ -16,4 +16,4 @@ returns : tie.Need-returns
 returns c = one-shl 32 (c .args .k - 1) (omega (arith, c .pre .0))
 
 pub next-bit-spec : {M : Type 1} → statement M
-next-bit-spec = tie.close (tie.spec sub-result (λ c. search rules) shl-result returns)
+next-bit-spec = tie.close (tie.spec sub-result (λ c. search seeking) shl-result returns)

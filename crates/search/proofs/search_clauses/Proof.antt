@@ -2,7 +2,7 @@
 use Prim.Native.Nat.{_-_, _^_}
 use Rattle.sets.specs.Lists.{tabulate}
 use Rattle.search.specs.Tree.{dead}
-use Rattle.search.specs.Packed.{packedAt}
+use Rattle.leaf.specs.Packed.{packedAt}
 use Rattle.search.proofs.Turns.{Searching}
 use Rattle.search.proofs.Rules.{turning}
 use Rattle.search.proofs.search_clauses.Statement.{statement}

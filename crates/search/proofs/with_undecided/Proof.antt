@@ -2,7 +2,7 @@
 use native.Mathlib.Omega.{arith}
 use lib.Pow.{pow-pos}
 use Rattle.sets.proofs.Highest.{one-shl}
-use Rattle.search.proofs.Rules.{rules}
+use Rattle.search.proofs.Rules.{seeking}
 use Rattle.search.proofs.with_undecided.Statement.{statement}
 use Rattle.search.proofs.with_undecided.Tie as tie
 
@@ -16,4 +16,4 @@ returns : tie.Need-returns
 returns c = omega (arith, one-shl 32 (c .args .k) (omega (arith, c .pre .few)))
 
 pub with-undecided-spec : {M : Type 1} → statement M
-with-undecided-spec = tie.close (tie.spec (λ c. search rules) (λ c. search rules) sub-result add-result returns)
+with-undecided-spec = tie.close (tie.spec (λ c. search seeking) (λ c. search seeking) sub-result add-result returns)

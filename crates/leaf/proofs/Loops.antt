@@ -1,51 +1,21 @@
--- What the loops over a table's clauses find, at a node and at a leaf. Assumes nothing.
-use mathlib.Core.Path.{_≡_, refl, sym, ap, _∙_, fun-ext}
-use mathlib.Core.Bool.{Bool, true, false, _&&_, and-false}
+-- What the loops over a table's clauses find at a leaf. Assumes nothing.
+use mathlib.Core.Path.{_≡_, sym, ap, _∙_}
+use mathlib.Core.Bool.{false, _&&_}
 use mathlib.Core.Logic.{⊎-elim}
 use mathlib.Core.List.{List}
-use Prim.Native.Nat.{ℕ, zero, suc, _+_, _-_, _*_, _%_, _^_, _≤_, _<_}
-use native.Mathlib.Nat.{add-zero, add-suc}
+use Prim.Native.Nat.{ℕ, zero, suc, _+_, _-_, _%_, _^_, _≤_, _<_}
 use native.Mathlib.Omega.{arith}
 use lib.Dec.{eqb, eqb·suc-zero}
-use lib.Bits.{bitAnd, bitOr, and-mod, and-zero-l, and-zero-r, and-le-l, and-le-r, or-zero-l, or-add-and}
+use lib.Bits.{bitAnd, bitOr, and-zero-l, and-le-l, and-le-r, or-zero-l, or-add-and}
 use borrow.Author.Tests.{eqb-true, eqb-false, eq-eqb, ne-eqb}
-use Rattle.sets.specs.Lists.{anyOf, onward, tabulate}
-use Rattle.sets.specs.Words.{Inside, inside, apart}
+use Rattle.sets.specs.Lists.{onward, tabulate}
+use Rattle.sets.specs.Words.{inside, apart}
 use Rattle.sets.proofs.Tests.{dec}
 use Rattle.sets.proofs.Lists.{onward-start, onward-step, onward-done}
 use Rattle.program.specs.Clauses.{Clause, clauseOf}
 use Rattle.semantics.specs.Interpretations.{isStable}
-use Rattle.search.specs.Tree.{decided, deadBy, dead}
-use Rattle.search.specs.Leaf.{rulesOut, supports, supportFrom, supported}
-use Rattle.search.specs.Seek.{AtNode}
-use Rattle.search.proofs.Nodes.{and-reach}
-use Rattle.search.proofs.Supported.{unsupported}
-
--- ---- the node test: every undecided bit is put into the word
-in-settled : (k w x : ℕ) → w % 2 ^ k ≡ 0 → decided k x && inside x w ≡ inside x w
-in-settled k w x z = go (inside x w) refl
-  where
-    go : (b : Bool) → inside x w ≡ b → decided k x && b ≡ b
-    go true e =
-        let i : Inside x w = eqb-true _ _ e in
-        rw (eq-eqb (x % 2 ^ k) 0 (ap (λ y. y % 2 ^ k) (sym i) ∙ and-mod x w k ∙ rw z (and-zero-r (x % 2 ^ k))))
-    go false e = and-false (decided k x)
-
-sum-zero : (a b : ℕ) → eqb (a + b) 0 ≡ eqb b 0 && eqb a 0
-sum-zero a zero = rw add-zero
-sum-zero a (suc b) = rw (add-suc, eqb·suc-zero (a + b), eqb·suc-zero b)
-
-out-settled : (k w x : ℕ) → w % 2 ^ k ≡ 0 → decided k x && apart x w ≡ apart x (w + (2 ^ k - 1))
-out-settled k w x z = rw (and-reach k x w z) (sym (sum-zero (bitAnd x w) (x % 2 ^ k)))
-
-dead-test : (k w : ℕ) → w % 2 ^ k ≡ 0 → (c : Clause) → rulesOut (w + (2 ^ k - 1)) w (w + (2 ^ k - 1)) c ≡ deadBy k w c
-unfolding rulesOut deadBy
-dead-test k w z c = rw (in-settled k w (c .body) z, out-settled k w (c .naf) z, out-settled k w (c .head) z)
-
-pub node-tested : (P : List Clause) (k w : ℕ) {count reach : ℕ} {r : Bool} → AtNode count k w reach → r ≡ anyOf (rulesOut reach w reach) P → r ≡ dead P k w
-unfolding dead
-node-tested P k w at q =
-    q ∙ ap (λ (x : ℕ). anyOf (rulesOut x w x) P) (at .reaches) ∙ ap (λ (f : Clause → Bool). anyOf f P) (fun-ext (dead-test k w (at .placed .low)))
+use Rattle.leaf.specs.Leaf.{rulesOut, supports, supportFrom, supported}
+use Rattle.leaf.proofs.Supported.{unsupported}
 
 -- ---- several words are zero where their union is
 or-zero : (a b : ℕ) → eqb (bitOr a b) 0 ≡ eqb a 0 && eqb b 0

@@ -1,15 +1,15 @@
--- `search::has_smaller` meets its contract: it calls itself with fewer undecided bits, and each way to return is a law. Assumes nothing.
+-- `leaf::has_smaller` meets its contract: it calls itself with fewer undecided bits, and each way to return is a law. Assumes nothing.
 use Prim.Native.Nat.{ℕ, _<_}
 use borrow.Fn.Kinds.{In}
 use borrow.Fn.PlainCycle.{Measures, is, falls, and}
-use Rattle.search.proofs.Rules.{rules}
-use Rattle.search.proofs.has_smaller.Reads as has-smaller
-use Rattle.search.proofs.has_smaller.Kinds as has-smaller-kinds
-use Rattle.search.proofs.+has_smaller.Lts-has_smaller as lts
-use Rattle.search.proofs.highest.Reads as highest-reads
-use Rattle.search.proofs.some_rules_out.Reads as some-rules-out-reads
-use Rattle.search.proofs.+has_smaller.{statement}
-use Rattle.search.proofs.+has_smaller.Tie.{close}
+use Rattle.leaf.proofs.Rules.{rules}
+use Rattle.leaf.proofs.has_smaller.Reads as has-smaller
+use Rattle.leaf.proofs.has_smaller.Kinds as has-smaller-kinds
+use Rattle.leaf.proofs.+has_smaller.Lts-has_smaller as lts
+use Rattle.leaf.proofs.highest.Reads as highest-reads
+use Rattle.leaf.proofs.some_rules_out.Reads as some-rules-out-reads
+use Rattle.leaf.proofs.+has_smaller.{statement}
+use Rattle.leaf.proofs.+has_smaller.Tie.{close}
 
 abbrev μ-has-smaller : Measures 1 has-smaller-kinds.ps ℕ
 μ-has-smaller κs a = a .1 .1 .1 .1 .0

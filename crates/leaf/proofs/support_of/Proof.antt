@@ -1,10 +1,10 @@
--- `search::support_of` meets its contract. Assumes nothing.
+-- `leaf::support_of` meets its contract. Assumes nothing.
 use Prim.Native.Nat.{_-_}
-use Rattle.search.specs.Packed.{packedAt}
-use Rattle.search.proofs.Loops.{Gathered}
-use Rattle.search.proofs.Rules.{rules}
-use Rattle.search.proofs.support_of.Statement.{statement}
-use Rattle.search.proofs.support_of.Tie as tie
+use Rattle.leaf.specs.Packed.{packedAt}
+use Rattle.leaf.proofs.Loops.{Gathered}
+use Rattle.leaf.proofs.Rules.{rules}
+use Rattle.leaf.proofs.support_of.Statement.{statement}
+use Rattle.leaf.proofs.support_of.Tie as tie
 
 abbrev Inv-loop : tie.InvT-loop
 Inv-loop table count w all₀ i₀ all i = Gathered (packedAt table) count w i all

@@ -21,9 +21,7 @@ use Rattle.program.specs.Clauses.{Clause}
 use Rattle.semantics.specs.Interpretations.{reduct, isModel, violates, smaller, leastSmaller, isStable}
 use Rattle.stable.proofs.Readings.{apart-none}
 use Rattle.stable.proofs.Checking.{model-cons}
-use Rattle.search.specs.Tree.{dead}
-use Rattle.search.specs.Leaf.{rulesOut, smallerBetween}
-use Rattle.search.proofs.Nodes.{isMinimal, stable-leaf}
+use Rattle.leaf.specs.Leaf.{rulesOut, smallerBetween}
 
 -- ---- words as sets
 inside-trans : (a b c : ℕ) → Inside a b → Inside b c → Inside a c
@@ -140,8 +138,8 @@ module _ (P : List Clause) (I : ℕ) where
   between-all : (K : ℕ) → Between 0 I K → Inside K I
   between-all K b = rw (or-zero-l I) at (inside-bits K (bitOr 0 I) .1 (b .within))
 
-  minimal-is : not (smallerBetween P I 0 I) ≡ isMinimal P I
-  unfolding isMinimal leastSmaller smaller
+  minimal-is : not (smallerBetween P I 0 I) ≡ eqb (leastSmaller P I) I
+  unfolding leastSmaller smaller
   minimal-is = ⊎-elim
       (λ t.
       let s = finds 0 I t in
@@ -156,8 +154,9 @@ module _ (P : List Clause) (I : ℕ) where
       (dec (smaller (reduct P I) I j))))))
       (dec (smallerBetween P I 0 I))
 
-  pub leaf-tested : {r : Bool} → dead P 0 I ≡ false → r ≡ smallerBetween P I 0 I → not r ≡ isStable P I
-  leaf-tested d e = ap not e ∙ minimal-is ∙ sym (stable-leaf P I ∙ rw d)
+  pub leaf-tested : {r : Bool} → isModel (reduct P I) I ≡ true → r ≡ smallerBetween P I 0 I → not r ≡ isStable P I
+  unfolding isStable
+  leaf-tested m e = ap not e ∙ minimal-is ∙ rw m
 
 pub all-open : (I : ℕ) → Inside (bitOr 0 I) I
 all-open I = inside-bits (bitOr 0 I) I .1 (λ i u. subst (λ (x : ℕ). T (bit x i)) (or-zero-l I) u)

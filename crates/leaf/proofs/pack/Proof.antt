@@ -1,9 +1,9 @@
--- `search::pack` meets its contract. Assumes nothing.
+-- `leaf::pack` meets its contract. Assumes nothing.
 use Prim.Native.Nat.{_-_}
-use Rattle.search.proofs.Packing.{Packing}
-use Rattle.search.proofs.Rules.{rules}
-use Rattle.search.proofs.pack.Statement.{statement}
-use Rattle.search.proofs.pack.Tie as tie
+use Rattle.leaf.proofs.Packing.{Packing}
+use Rattle.leaf.proofs.Rules.{rules}
+use Rattle.leaf.proofs.pack.Statement.{statement}
+use Rattle.leaf.proofs.pack.Tie as tie
 
 abbrev Inv-loop : tie.InvT-loop
 Inv-loop heads bodies nafs table₀ i₀ table i = Packing heads bodies nafs i table

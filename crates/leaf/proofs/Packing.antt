@@ -10,7 +10,7 @@ use Rattle.sets.specs.Lists.{tabulate}
 use Rattle.sets.proofs.Tests.{same?}
 use Rattle.sets.proofs.Lists.{upFrom-ext}
 use Rattle.program.specs.Clauses.{clauseAt}
-use Rattle.search.specs.Packed.{packedAt, Packs}
+use Rattle.leaf.specs.Packed.{packedAt, Packs}
 
 -- the clauses below i are packed
 pub record Packing (hs bs ns : List ℕ) (i : ℕ) (t : List ℕ) : Type 0 where

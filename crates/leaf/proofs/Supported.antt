@@ -16,7 +16,7 @@ use Rattle.program.specs.Clauses.{Clause}
 use Rattle.semantics.specs.Interpretations.{reduct, isModel, violates, isStable}
 use Rattle.stable.proofs.Checking.{model-cons}
 use Rattle.stable.proofs.Decides.{StableWord, stable-word}
-use Rattle.search.specs.Leaf.{supports, supportFrom, supported}
+use Rattle.leaf.specs.Leaf.{supports, supportFrom, supported}
 
 -- w without digit k
 unfoldable without : ℕ → ℕ → ℕ

@@ -1,8 +1,8 @@
--- `search::highest` meets its contract: it is the law of the highest bit at 32 bits. Assumes nothing.
+-- `leaf::highest` meets its contract: it is the law of the highest bit at 32 bits. Assumes nothing.
 use native.Mathlib.Omega.{arith}
 use Rattle.sets.proofs.Highest.{leading-few, highest-is}
-use Rattle.search.proofs.highest.Statement.{statement}
-use Rattle.search.proofs.highest.Tie as tie
+use Rattle.leaf.proofs.highest.Statement.{statement}
+use Rattle.leaf.proofs.highest.Tie as tie
 
 pub highest-spec : {M : Type 1} → statement M
 highest-spec =

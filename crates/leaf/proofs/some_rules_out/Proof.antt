@@ -1,11 +1,11 @@
--- `search::some_rules_out` meets its contract. Assumes nothing.
+-- `leaf::some_rules_out` meets its contract. Assumes nothing.
 use Prim.Native.Nat.{_-_}
 use Rattle.sets.proofs.Lists.{Lacks}
-use Rattle.search.specs.Packed.{packedAt}
-use Rattle.search.specs.Leaf.{rulesOut}
-use Rattle.search.proofs.Rules.{rules}
-use Rattle.search.proofs.some_rules_out.Statement.{statement}
-use Rattle.search.proofs.some_rules_out.Tie as tie
+use Rattle.leaf.specs.Packed.{packedAt}
+use Rattle.leaf.specs.Leaf.{rulesOut}
+use Rattle.leaf.proofs.Rules.{rules}
+use Rattle.leaf.proofs.some_rules_out.Statement.{statement}
+use Rattle.leaf.proofs.some_rules_out.Tie as tie
 
 abbrev Inv-loop : tie.InvT-loop
 Inv-loop table count by w reach i₀ i = Lacks (packedAt table) count (rulesOut by w reach) 0 i

@@ -1,9 +1,9 @@
--- `search::support` meets its contract. Assumes nothing.
+-- `leaf::support` meets its contract. Assumes nothing.
 use native.Mathlib.Omega.{arith}
 use lib.Bits.{and-le-l}
-use Rattle.search.proofs.Rules.{rules}
-use Rattle.search.proofs.support.Statement.{statement}
-use Rattle.search.proofs.support.Tie as tie
+use Rattle.leaf.proofs.Rules.{rules}
+use Rattle.leaf.proofs.support.Statement.{statement}
+use Rattle.leaf.proofs.support.Tie as tie
 
 sub-if1 : tie.Need-sub-if1
 sub-if1 c = let a = c .before .args in omega (arith, and-le-l (a .body) (a .w))
