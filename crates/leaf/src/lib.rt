@@ -11,16 +11,26 @@ ghost use Rattle.leaf.specs.Packed.{packedAt, Packs};
 ghost use Rattle.leaf.specs.Leaf.{rulesOut, supports, supported, smallerBetween};
 
 // ---- the clauses in one array, which a recursion hands down as one reference
-// The heads in the first 64 places, then the bodies, then the not-parts.
-pub fn pack<'a>(heads: &'a [u32; 64], bodies: &'a [u32; 64], nafs: &'a [u32; 64]) -> [u32; 192]
+// The heads from place 0 on, the bodies, the not-parts, and how many words that are.
+const BODIES: usize = program::MOST_CLAUSES;
+
+const NAFS: usize = 2 * program::MOST_CLAUSES;
+
+pub const WORDS: usize = 3 * program::MOST_CLAUSES;
+
+pub fn pack<'a>(
+    heads: &'a [u32; program::MOST_CLAUSES],
+    bodies: &'a [u32; program::MOST_CLAUSES],
+    nafs: &'a [u32; program::MOST_CLAUSES],
+) -> [u32; WORDS]
     ensures { λ r. ⌜ Packs (now (heads .entry)) (now (bodies .entry)) (now (nafs .entry)) r ⌝ }
 {
-    let mut table = [0u32; 192];
+    let mut table = [0u32; WORDS];
     let mut i: usize = 0;
-    while i < 64 {
+    while i < program::MOST_CLAUSES {
         table[i] = heads[i];
-        table[64 + i] = bodies[i];
-        table[128 + i] = nafs[i];
+        table[BODIES + i] = bodies[i];
+        table[NAFS + i] = nafs[i];
         i += 1;
     }
     table
@@ -35,13 +45,13 @@ fn rules_out(head: u32, body: u32, naf: u32, by: u32, w: u32, reach: u32) -> boo
 }
 
 // Whether that is so of some clause.
-pub fn some_rules_out(table: &[u32; 192], count: usize, by: u32, w: u32, reach: u32) -> bool
+pub fn some_rules_out(table: &[u32; WORDS], count: usize, by: u32, w: u32, reach: u32) -> bool
     requires { ⌜ count ≤ 64 ⌝ }
     ensures { λ r. ⌜ r ≡ anyOf (rulesOut by w reach) (tabulate (packedAt (now (table .entry))) count) ⌝ }
 {
     let mut i: usize = 0;
     while i < count {
-        if rules_out(table[i], table[64 + i], table[128 + i], by, w, reach) {
+        if rules_out(table[i], table[BODIES + i], table[NAFS + i], by, w, reach) {
             return true;
         }
         i += 1;
@@ -63,14 +73,14 @@ fn support(head: u32, body: u32, naf: u32, w: u32) -> u32
 }
 
 // The literals of `w` that some clause supports.
-fn support_of(table: &[u32; 192], count: usize, w: u32) -> u32
+fn support_of(table: &[u32; WORDS], count: usize, w: u32) -> u32
     requires { ⌜ count ≤ 64 ⌝ }
     ensures { λ r. ⌜ r ≡ supported (tabulate (packedAt (now (table .entry))) count) w ⌝ }
 {
     let mut all: u32 = 0;
     let mut i: usize = 0;
     while i < count {
-        all = all | support(table[i], table[64 + i], table[128 + i], w);
+        all = all | support(table[i], table[BODIES + i], table[NAFS + i], w);
         i += 1;
     }
     all
@@ -86,7 +96,7 @@ fn highest(x: u32) -> u32
 
 // Whether a proper subset of `by` satisfies the reduct by it, among those that hold `held` and of the rest only bits of `undecided`.
 // The bits of `undecided` are decided from the highest, out before in; a branch is left where a clause is violated by all below it.
-fn has_smaller(table: &[u32; 192], count: usize, by: u32, held: u32, undecided: u32) -> bool
+fn has_smaller(table: &[u32; WORDS], count: usize, by: u32, held: u32, undecided: u32) -> bool
     requires { ⌜ (count ≤ 64) × Inside (bitOr held undecided) by ⌝ }
     ensures { λ r. ⌜ r ≡ smallerBetween (tabulate (packedAt (now (table .entry))) count) by held undecided ⌝ }
 {
@@ -105,7 +115,7 @@ fn has_smaller(table: &[u32; 192], count: usize, by: u32, held: u32, undecided: 
 }
 
 // Whether a word that satisfies its reduct is p-stable: its literals are supported, and no smaller subset satisfies the reduct.
-pub fn leaf_stable(table: &[u32; 192], count: usize, w: u32) -> bool
+pub fn leaf_stable(table: &[u32; WORDS], count: usize, w: u32) -> bool
     requires { ⌜ count ≤ 64 ⌝ }
     requires { ⌜ isModel (reduct (tabulate (packedAt (now table)) count) w) w ≡ true ⌝ }
     ensures { λ r. ⌜ r ≡ isStable (tabulate (packedAt (now (table .entry))) count) w ⌝ }

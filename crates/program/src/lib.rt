@@ -6,14 +6,24 @@ ghost use Rattle.sets.specs.Lists.{every};
 ghost use Rattle.program.specs.Values.{isWord, valueIn};
 ghost use Rattle.program.specs.Names.{isLetter, isPlain, isName};
 
+// ---- the table
+// "Names: 1 to 12", each in a place of eight bytes; "Clauses: 0 to 64".
+pub const MOST_ATOMS: usize = 12;
+
+pub const NAME_BYTES: usize = 8;
+
+pub const ALL_NAME_BYTES: usize = MOST_ATOMS * NAME_BYTES;
+
+pub const MOST_CLAUSES: usize = 64;
+
 // Document 01's table; a name is an atom here, and unused places are zero.
 pub struct Program {
     pub atom_count: usize,
-    pub atom_names: [u8; 96],
+    pub atom_names: [u8; ALL_NAME_BYTES],
     pub clause_count: usize,
-    pub heads: [u32; 64],
-    pub bodies: [u32; 64],
-    pub nafs: [u32; 64],
+    pub heads: [u32; MOST_CLAUSES],
+    pub bodies: [u32; MOST_CLAUSES],
+    pub nafs: [u32; MOST_CLAUSES],
 }
 
 // ---- what calls answer
@@ -131,5 +141,5 @@ fn letter_first(s: &[u8]) -> bool
 pub fn is_name(s: &[u8]) -> bool
     ensures { λ r. ⌜ r ≡ isName (now (s .entry)) ⌝ }
 {
-    (1 <= s.len()) & (s.len() <= 8) & all_plain(s) & letter_first(s)
+    (1 <= s.len()) & (s.len() <= NAME_BYTES) & all_plain(s) & letter_first(s)
 }

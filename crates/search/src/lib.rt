@@ -26,7 +26,7 @@ fn with_undecided(k: usize, w: u32) -> u32
 }
 
 // Whether the node is dead, where `reach` is the word with every undecided bit.
-fn node_dead(table: &[u32; 192], count: usize, k: usize, w: u32, reach: u32) -> bool
+fn node_dead(table: &[u32; leaf::WORDS], count: usize, k: usize, w: u32, reach: u32) -> bool
     requires { ⌜ AtNode count k w reach ⌝ }
     ensures { λ r. ⌜ r ≡ dead (tabulate (packedAt (now (table .entry))) count) k w ⌝ }
 {
@@ -66,7 +66,7 @@ const SPENT: u32 = 0xffff_fffe;
 // The list is not handed down: only references and numbers are, since a slice or a struct is copied at each call.
 // So is `reach`, the word with every undecided bit, since a shift at each node costs more.
 fn seek(
-    table: &[u32; 192],
+    table: &[u32; leaf::WORDS],
     count: usize,
     k: usize,
     w: u32,
@@ -131,7 +131,7 @@ fn ended(outcome: Outcome, written: usize, visited: u64) -> SearchAnswer
 
 // The search over `n` atoms: each turn seeks one model and writes it.
 fn search_clauses(
-    table: &[u32; 192],
+    table: &[u32; leaf::WORDS],
     count: usize,
     n: usize,
     node_limit: u64,

@@ -44,17 +44,17 @@ fn is_place(s: &[u8]) -> bool
     program::is_name(&s[..n]) & zero_bytes(s, n)
 }
 
-fn place_holds(names: &[u8; 96], i: usize) -> bool
+fn place_holds(names: &[u8; program::ALL_NAME_BYTES], i: usize) -> bool
     requires { ⌜ i < 12 ⌝ }
     ensures { λ r. ⌜ r ≡ isPlace (place (now (names .entry)) i) ⌝ }
 {
-    let a = 8 * i;
-    let e = a + 8;
+    let a = program::NAME_BYTES * i;
+    let e = a + program::NAME_BYTES;
     let all = &names[..];
     is_place(&all[a..e])
 }
 
-fn places_hold(names: &[u8; 96], n: usize) -> bool
+fn places_hold(names: &[u8; program::ALL_NAME_BYTES], n: usize) -> bool
     requires { ⌜ n ≤ 12 ⌝ }
     ensures { λ r. ⌜ r ≡ every isPlace (tabulate (place (now (names .entry))) n) ⌝ }
 {
@@ -68,20 +68,20 @@ fn places_hold(names: &[u8; 96], n: usize) -> bool
     true
 }
 
-fn same_places(names: &[u8; 96], i: usize, j: usize) -> bool
+fn same_places(names: &[u8; program::ALL_NAME_BYTES], i: usize, j: usize) -> bool
     requires { ⌜ (i < 12) × (j < 12) ⌝ }
     ensures { λ r. ⌜ r ≡ same (place (now (names .entry)) i) (place (now (names .entry)) j) ⌝ }
 {
-    let a = 8 * i;
-    let e = a + 8;
-    let b = 8 * j;
-    let f = b + 8;
+    let a = program::NAME_BYTES * i;
+    let e = a + program::NAME_BYTES;
+    let b = program::NAME_BYTES * j;
+    let f = b + program::NAME_BYTES;
     let all = &names[..];
     lists::same_bytes(&all[a..e], &all[b..f])
 }
 
 // Whether the place `i` stands again behind it.
-fn repeated(names: &[u8; 96], n: usize, i: usize) -> bool
+fn repeated(names: &[u8; program::ALL_NAME_BYTES], n: usize, i: usize) -> bool
     requires { ⌜ (n ≤ 12) × (i < n) ⌝ }
     ensures { λ r. ⌜ r ≡ anyOf (same (place (now (names .entry)) i)) (onward (place (now (names .entry))) n (i + 1)) ⌝ }
 {
@@ -95,7 +95,7 @@ fn repeated(names: &[u8; 96], n: usize, i: usize) -> bool
     false
 }
 
-fn places_differ(names: &[u8; 96], n: usize) -> bool
+fn places_differ(names: &[u8; program::ALL_NAME_BYTES], n: usize) -> bool
     requires { ⌜ n ≤ 12 ⌝ }
     ensures { λ r. ⌜ r ≡ distinct (tabulate (place (now (names .entry))) n) ⌝ }
 {
@@ -109,16 +109,16 @@ fn places_differ(names: &[u8; 96], n: usize) -> bool
     true
 }
 
-fn names_valid(names: &[u8; 96], n: usize) -> bool
+fn names_valid(names: &[u8; program::ALL_NAME_BYTES], n: usize) -> bool
     ensures { λ r. ⌜ r ≡ namesValid (now (names .entry)) n ⌝ }
 {
     if n < 1 {
         return false;
     }
-    if 12 < n {
+    if program::MOST_ATOMS < n {
         return false;
     }
-    places_hold(names, n) & places_differ(names, n) & zero_bytes(names, 8 * n)
+    places_hold(names, n) & places_differ(names, n) & zero_bytes(names, program::NAME_BYTES * n)
 }
 
 // ---- the clauses of a table
@@ -132,9 +132,9 @@ fn clause_holds(n: usize, head: u32, body: u32, naf: u32) -> bool
 }
 
 fn clauses_hold<'a>(
-    heads: &'a [u32; 64],
-    bodies: &'a [u32; 64],
-    nafs: &'a [u32; 64],
+    heads: &'a [u32; program::MOST_CLAUSES],
+    bodies: &'a [u32; program::MOST_CLAUSES],
+    nafs: &'a [u32; program::MOST_CLAUSES],
     count: usize,
     n: usize,
 ) -> bool
@@ -152,15 +152,15 @@ fn clauses_hold<'a>(
 }
 
 fn clauses_valid<'a>(
-    heads: &'a [u32; 64],
-    bodies: &'a [u32; 64],
-    nafs: &'a [u32; 64],
+    heads: &'a [u32; program::MOST_CLAUSES],
+    bodies: &'a [u32; program::MOST_CLAUSES],
+    nafs: &'a [u32; program::MOST_CLAUSES],
     count: usize,
     n: usize,
 ) -> bool
     ensures { λ r. ⌜ r ≡ clausesValid (now (heads .entry)) (now (bodies .entry)) (now (nafs .entry)) count n ⌝ }
 {
-    if 64 < count {
+    if program::MOST_CLAUSES < count {
         return false;
     }
     clauses_hold(heads, bodies, nafs, count, n)
