@@ -5,6 +5,4 @@ use Rattle.leaf.proofs.highest.Statement.{statement}
 use Rattle.leaf.proofs.highest.Tie as tie
 
 pub highest-spec : {M : Type 1} → statement M
-highest-spec =
-    tie.close
-    (tie.spec (λ c. leading-few 32 (c .args .x) (c .pre) (omega arith)) (λ c. omega arith) (λ c. highest-is 32 (c .args .x) (c .pre) (omega arith)))
+highest-spec = tie.close (tie.spec (λ c. leading-few 32 (c .args .x) (c .pre) (omega arith)) (λ c. omega arith) (λ c. highest-is 32 (c .args .x) (c .pre) (omega arith)))

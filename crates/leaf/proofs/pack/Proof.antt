@@ -1,4 +1,4 @@
--- `leaf::pack` meets its contract. Assumes nothing.
+-- `leaf::pack` meets its contract: the clauses below i stand in the array as they stand in the columns. Assumes nothing.
 use Prim.Native.Nat.{_-_}
 use Rattle.leaf.proofs.Packing.{Packing}
 use Rattle.leaf.proofs.Rules.{rules}
@@ -12,9 +12,6 @@ abbrev μ-loop : tie.MeasureT-loop
 μ-loop heads bodies nafs table₀ i₀ table i = 64 - i
 
 pub pack-spec : {M : Type 1} → statement M
-pack-spec =
-    tie.close
-    (tie.spec
-    Inv-loop μ-loop (λ c. search rules) (λ c. search rules) (λ c. search rules) (λ c. search rules) (λ c. search rules) (λ c. search rules)
-    (λ c. search rules) (λ c. search rules) (λ c. search rules) (λ c. search rules) (λ c. search rules) (λ c. search rules) (λ c. search rules)
-    (λ c. search rules) (λ c. search rules) (λ c. search rules) (λ c. search rules) (λ c. search rules) (λ c. search rules))
+pack-spec = tie.close (tie.spec Inv-loop μ-loop (λ c. search rules) (λ c. search rules) (λ c. search rules) (λ c. search rules) (λ c. search rules) (λ c. search rules) (λ c. search rules)
+    (λ c. search rules) (λ c. search rules) (λ c. search rules) (λ c. search rules) (λ c. search rules) (λ c. search rules) (λ c. search rules) (λ c. search rules) (λ c. search rules)
+    (λ c. search rules) (λ c. search rules) (λ c. search rules))

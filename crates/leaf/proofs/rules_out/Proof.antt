@@ -1,4 +1,4 @@
--- `leaf::rules_out` meets its contract. Assumes nothing.
+-- `leaf::rules_out` meets its contract: three words are zero where their union is (`ruled-out`). Assumes nothing.
 use native.Mathlib.Omega.{arith}
 use lib.Bits.{and-le-l}
 use Rattle.leaf.proofs.Rules.{rules}

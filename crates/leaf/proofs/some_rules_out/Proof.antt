@@ -1,4 +1,4 @@
--- `leaf::some_rules_out` meets its contract. Assumes nothing.
+-- `leaf::some_rules_out` meets its contract: no clause below i rules the words out, the loop law of a layout. Assumes nothing.
 use Prim.Native.Nat.{_-_}
 use Rattle.sets.proofs.Lists.{Lacks}
 use Rattle.leaf.specs.Packed.{packedAt}
@@ -14,4 +14,5 @@ abbrev μ-loop : tie.MeasureT-loop
 μ-loop table count by w reach i₀ i = count - i
 
 pub some-rules-out-spec : {M : Type 1} → statement M
-some-rules-out-spec = tie.close (tie.spec Inv-loop μ-loop (λ c. search rules) (λ c. search rules) (λ c. search rules) (λ c. search rules) (λ c. search rules) (λ c. search rules) (λ c. search rules) (λ c. search rules) (λ c. search rules) (λ c. search rules) (λ c. search rules) (λ c. search rules) (λ c. search rules) (λ c. search rules) (λ c. search rules))
+some-rules-out-spec = tie.close (tie.spec Inv-loop μ-loop (λ c. search rules) (λ c. search rules) (λ c. search rules) (λ c. search rules) (λ c. search rules) (λ c. search rules)
+    (λ c. search rules) (λ c. search rules) (λ c. search rules) (λ c. search rules) (λ c. search rules) (λ c. search rules) (λ c. search rules) (λ c. search rules) (λ c. search rules))

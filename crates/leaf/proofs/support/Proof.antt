@@ -1,4 +1,4 @@
--- `leaf::support` meets its contract. Assumes nothing.
+-- `leaf::support` meets its contract: `is-support` where the four words are zero, else `no-support`. Assumes nothing.
 use native.Mathlib.Omega.{arith}
 use lib.Bits.{and-le-l}
 use Rattle.leaf.proofs.Rules.{rules}

@@ -1,4 +1,4 @@
--- `search::next_bit` meets its contract. Assumes nothing.
+-- `search::next_bit` meets its contract: a shift of one is exact below 32 bits. Assumes nothing.
 use Prim.Native.Nat.{_-_}
 use native.Mathlib.Omega.{arith}
 use Rattle.sets.proofs.Highest.{one-shl}

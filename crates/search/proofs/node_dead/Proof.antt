@@ -1,4 +1,4 @@
--- `search::node_dead` meets its contract. Assumes nothing.
+-- `search::node_dead` meets its contract: `node-tested`, from what the test over clauses ensures at the word with every undecided bit. Assumes nothing.
 use Rattle.search.proofs.Rules.{seeking}
 use Rattle.search.proofs.node_dead.Statement.{statement}
 use Rattle.search.proofs.node_dead.Tie as tie

@@ -4,8 +4,5 @@ use Rattle.search.proofs.search.Statement.{statement}
 use Rattle.search.proofs.search.Tie as tie
 
 pub search-spec : {M : Type 1} → statement M
-search-spec =
-    tie.close
-    (tie.spec
-    (λ c. search turning) (λ c. search turning) (λ c. search turning) (λ c. search turning)
-    (λ c κs. (search turning, search turning)) (λ c. search turning) (λ c. search turning))
+search-spec = tie.close (tie.spec (λ c. search turning) (λ c. search turning) (λ c. search turning) (λ c. search turning) (λ c κs. (search turning, search turning)) (λ c. search turning)
+    (λ c. search turning))

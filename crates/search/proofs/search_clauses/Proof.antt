@@ -16,26 +16,6 @@ abbrev μ-loop : tie.MeasureT-loop
 μ-loop table count n node-limit models₀ k reach written₀ visited₀ from₀ models written visited from = 2 ^ 24 - from
 
 pub search-clauses-spec : {M : Type 1} → statement M
-search-clauses-spec =
-    tie.close
-    (tie.spec
-    Inv-loop μ-loop
-    (λ c. search turning)
-    (λ c. search turning)
-    (λ c. search turning)
-    (λ c. search turning)
-    (λ c. search turning)
-    (λ c. search turning)
-    (λ c. search turning)
-    (λ c. search turning)
-    (λ c. search turning)
-    (λ c. search turning)
-    (λ c. search turning)
-    (λ c. search turning)
-    (λ c. search turning)
-    (λ c. search turning)
-    (λ c. search turning)
-    (λ c. search turning)
-    (λ c. search turning)
-    (λ c. search turning)
-    (λ c. search turning))
+search-clauses-spec = tie.close (tie.spec Inv-loop μ-loop (λ c. search turning) (λ c. search turning) (λ c. search turning) (λ c. search turning) (λ c. search turning) (λ c. search turning)
+    (λ c. search turning) (λ c. search turning) (λ c. search turning) (λ c. search turning) (λ c. search turning) (λ c. search turning) (λ c. search turning) (λ c. search turning)
+    (λ c. search turning) (λ c. search turning) (λ c. search turning) (λ c. search turning) (λ c. search turning))

@@ -1,4 +1,4 @@
--- `search::with_undecided` meets its contract. Assumes nothing.
+-- `search::with_undecided` meets its contract: a shift of one is exact below 32 bits, and the word has room above its undecided bits. Assumes nothing.
 use native.Mathlib.Omega.{arith}
 use lib.Pow.{pow-pos}
 use Rattle.sets.proofs.Highest.{one-shl}

@@ -1,4 +1,4 @@
--- `validity::clause_holds` meets its contract. Assumes nothing.
+-- `validity::clause_holds` meets its contract: the three words are over n atoms, and not all of them are zero. Assumes nothing.
 use Rattle.program.specs.Valid.{isClause}
 use Rattle.validity.proofs.Rules.{rules}
 use Rattle.validity.proofs.clause_holds.Statement.{statement}

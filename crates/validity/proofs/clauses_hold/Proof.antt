@@ -1,4 +1,4 @@
--- `validity::clauses_hold` meets its contract. Assumes nothing.
+-- `validity::clauses_hold` meets its contract: all clauses below k pass, the loop law of a layout. Assumes nothing.
 use Prim.Native.Nat.{_-_}
 use Rattle.sets.proofs.Lists.{Kept}
 use Rattle.program.specs.Clauses.{clauseAt}
@@ -20,4 +20,5 @@ returns-2 : tie.Need-returns-2 Inv-loop μ-loop
 returns-2 c = search rules
 
 pub clauses-hold-spec : {M : Type 1} → statement M
-clauses-hold-spec = tie.close (tie.spec Inv-loop μ-loop (λ c. search rules) (λ c. search rules) (λ c. search rules) (λ c. search rules) (λ c. search rules) (λ c. search rules) (λ c. search rules) (λ c. search rules) returns (λ c. search rules) (λ c. search rules) (λ c. search rules) returns-2)
+clauses-hold-spec = tie.close (tie.spec Inv-loop μ-loop (λ c. search rules) (λ c. search rules) (λ c. search rules) (λ c. search rules) (λ c. search rules) (λ c. search rules)
+    (λ c. search rules) (λ c. search rules) returns (λ c. search rules) (λ c. search rules) (λ c. search rules) returns-2)

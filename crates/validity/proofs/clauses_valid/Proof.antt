@@ -1,4 +1,4 @@
--- `validity::clauses_valid` meets its contract. Assumes nothing.
+-- `validity::clauses_valid` meets its contract: `clauses-many` beyond 64, else `clauses-are` joins the four tests. Assumes nothing.
 use Rattle.validity.proofs.Rules.{rules}
 use Rattle.validity.proofs.clauses_valid.Statement.{statement}
 use Rattle.validity.proofs.clauses_valid.Tie as tie

@@ -1,4 +1,4 @@
--- `validity::is_place` meets its contract. Assumes nothing.
+-- `validity::is_place` meets its contract: `place-is`, with the place where the name ends. Assumes nothing.
 use Rattle.validity.proofs.Rules.{rules}
 use Rattle.validity.proofs.is_place.Statement.{statement}
 use Rattle.validity.proofs.is_place.Tie as tie

@@ -1,4 +1,4 @@
--- `validity::is_valid` meets its contract. Assumes nothing.
+-- `validity::is_valid` meets its contract: `valid-is` joins the names' test and the clauses' test. Assumes nothing.
 use Rattle.validity.proofs.Rules.{rules}
 use Rattle.validity.proofs.is_valid.Statement.{statement}
 use Rattle.validity.proofs.is_valid.Tie as tie

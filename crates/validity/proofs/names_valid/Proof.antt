@@ -1,4 +1,4 @@
--- `validity::names_valid` meets its contract. Assumes nothing.
+-- `validity::names_valid` meets its contract: `names-none` and `names-many` for a count out of range, else `names-are` joins the three tests. Assumes nothing.
 use Rattle.validity.proofs.Rules.{rules}
 use Rattle.validity.proofs.names_valid.Statement.{statement}
 use Rattle.validity.proofs.names_valid.Tie as tie

@@ -1,4 +1,4 @@
--- `validity::place_holds` meets its contract. Assumes nothing.
+-- `validity::place_holds` meets its contract: the eight bytes that are lent are the place with the number i (`place-part`). Assumes nothing.
 use mathlib.Core.Path.{ap, _∙_}
 use Rattle.program.specs.Valid.{isPlace}
 use Rattle.program.proofs.Places.{place-part}

@@ -1,4 +1,4 @@
--- `validity::places_differ` meets its contract. Assumes nothing.
+-- `validity::places_differ` meets its contract: no place below i stands again behind it. Assumes nothing.
 use Prim.Native.Nat.{_-_}
 use Rattle.lists.proofs.Loops.{Single}
 use Rattle.program.specs.Names.{place}
@@ -13,4 +13,5 @@ abbrev μ-loop : tie.MeasureT-loop
 μ-loop names n i₀ i = n - i
 
 pub places-differ-spec : {M : Type 1} → statement M
-places-differ-spec = tie.close (tie.spec Inv-loop μ-loop (λ c. search rules) (λ c. search rules) (λ c. search rules) (λ c. search rules) (λ c. search rules) (λ c. search rules) (λ c. search rules))
+places-differ-spec = tie.close (tie.spec Inv-loop μ-loop (λ c. search rules) (λ c. search rules) (λ c. search rules) (λ c. search rules) (λ c. search rules) (λ c. search rules)
+    (λ c. search rules))

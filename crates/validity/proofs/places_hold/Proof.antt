@@ -1,4 +1,4 @@
--- `validity::places_hold` meets its contract. Assumes nothing.
+-- `validity::places_hold` meets its contract: all places below i hold a name, the loop law of a layout. Assumes nothing.
 use Prim.Native.Nat.{_-_}
 use Rattle.sets.proofs.Lists.{Kept}
 use Rattle.program.specs.Names.{place}
@@ -14,4 +14,5 @@ abbrev μ-loop : tie.MeasureT-loop
 μ-loop names n i₀ i = n - i
 
 pub places-hold-spec : {M : Type 1} → statement M
-places-hold-spec = tie.close (tie.spec Inv-loop μ-loop (λ c. search rules) (λ c. search rules) (λ c. search rules) (λ c. search rules) (λ c. search rules) (λ c. search rules) (λ c. search rules))
+places-hold-spec = tie.close (tie.spec Inv-loop μ-loop (λ c. search rules) (λ c. search rules) (λ c. search rules) (λ c. search rules) (λ c. search rules) (λ c. search rules)
+    (λ c. search rules))

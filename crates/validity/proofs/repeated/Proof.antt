@@ -1,4 +1,4 @@
--- `validity::repeated` meets its contract. Assumes nothing.
+-- `validity::repeated` meets its contract: none of the places between i and j is the same, the loop law of a layout. Assumes nothing.
 use Prim.Native.Nat.{_+_, _-_}
 use Rattle.sets.proofs.Lists.{Lacks}
 use Rattle.lists.specs.Bytes.{same}
@@ -14,4 +14,5 @@ abbrev μ-loop : tie.MeasureT-loop
 μ-loop names n i j₀ j = n - j
 
 pub repeated-spec : {M : Type 1} → statement M
-repeated-spec = tie.close (tie.spec Inv-loop μ-loop (λ c. search rules) (λ c. search rules) (λ c. search rules) (λ c. search rules) (λ c. search rules) (λ c. search rules) (λ c. search rules) (λ c. search rules))
+repeated-spec = tie.close (tie.spec Inv-loop μ-loop (λ c. search rules) (λ c. search rules) (λ c. search rules) (λ c. search rules) (λ c. search rules) (λ c. search rules)
+    (λ c. search rules) (λ c. search rules))

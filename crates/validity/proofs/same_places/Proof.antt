@@ -1,4 +1,4 @@
--- `validity::same_places` meets its contract. Assumes nothing.
+-- `validity::same_places` meets its contract: the bytes that are lent are the places with the numbers i and j (`place-part`). Assumes nothing.
 use mathlib.Core.Path.{ap₂, _∙_}
 use Rattle.lists.specs.Bytes.{same}
 use Rattle.program.proofs.Places.{place-part}
@@ -10,4 +10,5 @@ returns : tie.Need-returns
 returns c = let a = c .before .before .before .before .args in c .same-bytes .ensures ∙ ap₂ same (place-part _ (a .i)) (place-part _ (a .j))
 
 pub same-places-spec : {M : Type 1} → statement M
-same-places-spec = tie.close (tie.spec (λ c. search rules) (λ c. search rules) (λ c. search rules) (λ c. search rules) (λ c. search rules) (λ c. search rules) (λ c. search rules) (λ c. search rules) (λ c. search rules) (λ c. search rules) (λ c. search rules) returns)
+same-places-spec = tie.close (tie.spec (λ c. search rules) (λ c. search rules) (λ c. search rules) (λ c. search rules) (λ c. search rules) (λ c. search rules) (λ c. search rules)
+    (λ c. search rules) (λ c. search rules) (λ c. search rules) (λ c. search rules) returns)

@@ -1,4 +1,4 @@
--- `validity::zero_bytes` meets its contract. Assumes nothing.
+-- `validity::zero_bytes` meets its contract: all bytes between `from` and i are zero. Assumes nothing.
 use Prim.Native.Nat.{_-_}
 use lib.Dec.{eqb}
 use lib.ListN.{length}

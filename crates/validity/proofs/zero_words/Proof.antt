@@ -1,4 +1,4 @@
--- `validity::zero_words` meets its contract. Assumes nothing.
+-- `validity::zero_words` meets its contract: all words between `from` and i are zero. Assumes nothing.
 use Prim.Native.Nat.{_-_}
 use lib.Dec.{eqb}
 use lib.ListN.{length}
@@ -23,4 +23,5 @@ unfolding zeroFrom
 returns-2 c = search rules
 
 pub zero-words-spec : {M : Type 1} → statement M
-zero-words-spec = tie.close (tie.spec Inv-loop μ-loop (λ c. search rules) (λ c. search rules) (λ c. search rules) returns (λ c. search rules) (λ c. search rules) (λ c. search rules) returns-2)
+zero-words-spec = tie.close (tie.spec Inv-loop μ-loop (λ c. search rules) (λ c. search rules) (λ c. search rules) returns (λ c. search rules) (λ c. search rules) (λ c. search rules)
+    returns-2)
