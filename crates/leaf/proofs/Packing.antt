@@ -52,10 +52,11 @@ module _ (hs bs ns : List ℕ) where
     within = omega arith;
     long = put-long t i (getD hs i 0) (getD bs i 0) (getD ns i 0) (s .long) k;
     same = λ j h. ⊎-elim
-        (λ (e : j ≡ i). rw (e, head-is t i (getD hs i 0) (getD bs i 0) (getD ns i 0) (s .long) k, body-is t i (getD hs i 0) (getD bs i 0) (getD ns i 0) (s .long) k, naf-is t i (getD hs i 0) (getD bs i 0) (getD ns i 0) (s .long) k))
+        (λ (e : j ≡ i). rw (e, head-is t i _ (getD bs i 0) (getD ns i 0) (s .long) k, body-is t i (getD hs i 0) _ (getD ns i 0) (s .long) k, naf-is t i (getD hs i 0) (getD bs i 0) _ (s .long) k))
         (λ (d : j ≡ i → ⊥).
         let o = others t i (getD hs i 0) (getD bs i 0) (getD ns i 0) (s .long) k in
-        rw (o j d (λ e. omega arith) (λ e. omega arith), o (64 + j) (λ e. omega arith) (λ e. d (omega arith)) (λ e. omega arith), o (128 + j) (λ e. omega arith) (λ e. omega arith) (λ e. d (omega arith)))
+        let b = o (64 + j) (λ e. omega arith) (λ e. d (omega arith)) (λ e. omega arith) in
+        rw (o j d (λ e. omega arith) (λ e. omega arith), b, o (128 + j) (λ e. omega arith) (λ e. omega arith) (λ e. d (omega arith)))
         (s .same j (omega (arith, d))))
         (same? j i);
   }

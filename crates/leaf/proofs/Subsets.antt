@@ -144,7 +144,8 @@ module _ (P : List Clause) (I : ℕ) where
       (λ t.
       let s = finds 0 I t in
       ap not t ∙ sym (ne-eqb _ I (λ (q : least (smaller (reduct P I) I) I ≡ I).
-      clash (smaller (reduct P I) I (s .word)) (and-is-true _ _ (eq-eqb _ _ (between-all (s .word) (s .between))) (s .model)) (least-miss (smaller (reduct P I) I) I (s .word) (omega (arith, s .proper))))))
+      clash (smaller (reduct P I) I (s .word)) (and-is-true _ _ (eq-eqb _ _ (between-all (s .word) (s .between))) (s .model))
+      (least-miss (smaller (reduct P I) I) I (s .word) (omega (arith, s .proper))))))
       (λ u.
       ap not u ∙ sym (eq-eqb _ I (least-none (smaller (reduct P I) I) I (λ j l. ⊎-elim
       (λ t.

@@ -141,8 +141,7 @@ module _ (p : Program) (A : ℕ) (l : List ℕ) where
   searched {v} {a} {m} {t} e h k q =
       let u = sym e ∙ not-false v h in
       let r = accepted u in
-      let w : Ends (dead (tabulate (clauseAt (p .heads) (p .bodies) (p .nafs)) (p .«clause_count»))) (tabulate (clauseAt (p .heads) (p .bodies) (p .nafs)) (p .«clause_count»)) (p .«atom_count») A l a m =
-      rw (packed-same (p .heads) (p .bodies) (p .nafs) t (p .«clause_count») k (valid-clauses p u .short)) at q in
+      let w = rw (packed-same (p .heads) (p .bodies) (p .nafs) t (p .«clause_count») k (valid-clauses p u .short)) at q in
       record { says = w .says ∙ sym (r .0); lists = w .lists ∙ sym (r .1) }
 
 -- what the run asks of its table

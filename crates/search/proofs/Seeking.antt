@@ -82,7 +82,8 @@ module _ (hit : Node → Bool) (A : ℕ) where
   sought-append (x ∷ xs) ys v a e = go (ltb v A) (hit x) e (sought-append xs ys (v + 1) (a .1))
     where
       go : (b c : Bool) → cond b (cond c (x .word) (sought hit A xs (v + 1))) spent ≡ noLeaf
-          → (sought hit A xs (v + 1) ≡ noLeaf → (sought hit A (xs ++ ys) (v + 1) ≡ sought hit A ys (after hit A xs (v + 1))) × (after hit A (xs ++ ys) (v + 1) ≡ after hit A ys (after hit A xs (v + 1))))
+          → (sought hit A xs (v + 1) ≡ noLeaf
+          → (sought hit A (xs ++ ys) (v + 1) ≡ sought hit A ys (after hit A xs (v + 1))) × (after hit A (xs ++ ys) (v + 1) ≡ after hit A ys (after hit A xs (v + 1))))
           → (cond b (cond c (x .word) (sought hit A (xs ++ ys) (v + 1))) spent ≡ sought hit A ys (cond b (cond c (v + 1) (after hit A xs (v + 1))) v))
           × (cond b (cond c (v + 1) (after hit A (xs ++ ys) (v + 1))) v ≡ after hit A ys (cond b (cond c (v + 1) (after hit A xs (v + 1))) v))
       go true true e r = absurd (omega (arith, a .0))

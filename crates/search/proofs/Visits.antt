@@ -125,6 +125,11 @@ module _ (A x w v : ℕ) where
 pub small-words : (D : Dead) (x k w : ℕ) → Placed k w → All (λ u. u < 2 ^ 24) (fromWord x (nodes D k w))
 small-words D x k w p = all-fromWord _ x (nodes D k w) (all-map _ _ (λ u h. omega (arith, p .fits)) (nodes D k w) (nodes-between D k w))
 
+-- what is found among xs after v nodes is what is found among ys after v′
+record Passes (hit : Node → Bool) (A : ℕ) (xs : List Node) (v : ℕ) (ys : List Node) (v′ : ℕ) : Type 0 where
+  word : sought hit A xs v ≡ sought hit A ys v′
+  nodes : after hit A xs v ≡ after hit A ys v′
+
 module _ (D : Dead) (P : List Clause) (A x k w v : ℕ) where
   pub seek-passed : {count reach : ℕ} → AtNode count k w reach → reach < x → Sought (isStableLeaf D P) A x (nodes D k w) v noLeaf v
   unfolding sought after
@@ -134,51 +139,46 @@ module _ (D : Dead) (P : List Clause) (A x k w v : ℕ) where
 
   -- the node itself, with ys below it
   module _ (s : Bool) (v′ : ℕ) (t : Ticked A x w v s v′) (ys : List Node) where
-    node-spent : s ≡ true → (spent ≡ sought (isStableLeaf D P) A (fromWord x (node k w ∷ ys)) v) × (v′ ≡ after (isStableLeaf D P) A (fromWord x (node k w ∷ ys)) v)
+    node-spent : s ≡ true → Sought (isStableLeaf D P) A x (node k w ∷ ys) v spent v′
     unfolding sought after fromWord stops counted
     node-spent e =
         let b = both-true (not (ltb w x)) (not (ltb v A)) (sym (t .stopped) ∙ e) in
         let p = not-true (ltb w x) (b .0) in
         let q = not-true (ltb v A) (b .1) in
-        (rw (p, q), t .nodes ∙ rw (p, q))
+        record { word = rw (p, q); nodes = t .nodes ∙ rw (p, q) }
 
-    node-passed : s ≡ false → isStableLeaf D P (node k w) ≡ false
-        → (sought (isStableLeaf D P) A (fromWord x (node k w ∷ ys)) v ≡ sought (isStableLeaf D P) A (fromWord x ys) v′) × (after (isStableLeaf D P) A (fromWord x (node k w ∷ ys)) v ≡ after (isStableLeaf D P) A (fromWord x ys) v′)
+    node-passed : s ≡ false → isStableLeaf D P (node k w) ≡ false → Passes (isStableLeaf D P) A (fromWord x (node k w ∷ ys)) v (fromWord x ys) v′
     unfolding sought after fromWord stops counted
     node-passed e m = ⊎-elim
-        (λ (p : ltb w x ≡ true). let q : v′ ≡ v = t .nodes ∙ rw p in rw (p, q) (refl, refl))
+        (λ (p : ltb w x ≡ true). let q : v′ ≡ v = t .nodes ∙ rw p in record { word = rw (p, q); nodes = rw (p, q) })
         (λ (p : ltb w x ≡ false).
         let c : ltb v A ≡ true = not-false (ltb v A) (rw p at (sym (t .stopped)) ∙ e) in
         let q : v′ ≡ v + 1 = t .nodes ∙ rw (p, c) in
-        rw (p, c, m, q) (refl, refl))
+        record { word = rw (p, c, m, q); nodes = rw (p, c, m, q) })
         (dec (ltb w x))
 
-    node-hit : s ≡ false → isStableLeaf D P (node k w) ≡ true → x ≤ w → (w ≡ sought (isStableLeaf D P) A (fromWord x (node k w ∷ ys)) v) × (v′ ≡ after (isStableLeaf D P) A (fromWord x (node k w ∷ ys)) v)
+    node-hit : s ≡ false → isStableLeaf D P (node k w) ≡ true → x ≤ w → Sought (isStableLeaf D P) A x (node k w ∷ ys) v w v′
     unfolding sought after fromWord stops counted
     node-hit e m h =
         let p = le-ltb w x h in
         let c : ltb v A ≡ true = not-false (ltb v A) (rw p at (sym (t .stopped)) ∙ e) in
         let q : v′ ≡ v + 1 = t .nodes ∙ rw (p, c) in
-        rw (p, c, m, q) (refl, refl)
+        record { word = rw (p, c, m); nodes = q ∙ rw (p, c, m) }
 
   -- ---- the ways to leave a node, with v′ nodes visited when its test is done
   module _ (s : Bool) (v′ : ℕ) (t : Ticked A x w v s v′) where
-    here : (r : ℕ) → (r ≡ sought (isStableLeaf D P) A (fromWord x (node k w ∷ below D k w)) v) × (v′ ≡ after (isStableLeaf D P) A (fromWord x (node k w ∷ below D k w)) v) → Sought (isStableLeaf D P) A x (nodes D k w) v r v′
-    here r q = record {
-      word = q .0 ∙ ap (λ ns. sought (isStableLeaf D P) A (fromWord x ns) v) (sym (nodes-below D k w));
-      nodes = q .1 ∙ ap (λ ns. after (isStableLeaf D P) A (fromWord x ns) v) (sym (nodes-below D k w));
-    }
+    here : (r : ℕ) → Sought (isStableLeaf D P) A x (node k w ∷ below D k w) v r v′ → Sought (isStableLeaf D P) A x (nodes D k w) v r v′
+    here r q = rw (nodes-below D k w) q
 
     pub seek-spent : s ≡ true → Sought (isStableLeaf D P) A x (nodes D k w) v spent v′
     seek-spent e = here spent (node-spent s v′ t (below D k w) e)
 
-    past : s ≡ false → isStableLeaf D P (node k w) ≡ false
-        → (sought (isStableLeaf D P) A (fromWord x (nodes D k w)) v ≡ sought (isStableLeaf D P) A (fromWord x (below D k w)) v′) × (after (isStableLeaf D P) A (fromWord x (nodes D k w)) v ≡ after (isStableLeaf D P) A (fromWord x (below D k w)) v′)
+    past : s ≡ false → isStableLeaf D P (node k w) ≡ false → Passes (isStableLeaf D P) A (fromWord x (nodes D k w)) v (fromWord x (below D k w)) v′
     past e m = rw (nodes-below D k w) (node-passed s v′ t (below D k w) e m)
 
     ends-here : s ≡ false → isStableLeaf D P (node k w) ≡ false → below D k w ≡ [] → Sought (isStableLeaf D P) A x (nodes D k w) v noLeaf v′
     unfolding sought after fromWord
-    ends-here e m z = let r = past e m in record { word = sym (r .0 ∙ rw z); nodes = sym (r .1 ∙ rw z) }
+    ends-here e m z = let r = past e m in record { word = sym (r .word ∙ rw z); nodes = sym (r .nodes ∙ rw z) }
 
     pub seek-dead : {d : Bool} → s ≡ false → d ≡ D k w → d ≡ true → Sought (isStableLeaf D P) A x (nodes D k w) v noLeaf v′
     seek-dead e q h = let d = sym q ∙ h in ends-here e (dead-no-leaf D P k w d) (below-dead D k w d)
@@ -194,8 +194,7 @@ module _ (D : Dead) (P : List Clause) (A x k w v : ℕ) where
         here w (node-hit s v′ t (below D k w) e (leaf-is D P k w z (sym i ∙ j) ∙ sym q ∙ h) u)
 
     split : s ≡ false → (k ≡ 0 → ⊥) → D k w ≡ false
-        → (sought (isStableLeaf D P) A (fromWord x (nodes D k w)) v ≡ sought (isStableLeaf D P) A (fromWord x (nodes D (k - 1) w) ++ fromWord x (nodes D (k - 1) (w + 2 ^ (k - 1)))) v′)
-        × (after (isStableLeaf D P) A (fromWord x (nodes D k w)) v ≡ after (isStableLeaf D P) A (fromWord x (nodes D (k - 1) w) ++ fromWord x (nodes D (k - 1) (w + 2 ^ (k - 1)))) v′)
+        → Passes (isStableLeaf D P) A (fromWord x (nodes D k w)) v (fromWord x (nodes D (k - 1) w) ++ fromWord x (nodes D (k - 1) (w + 2 ^ (k - 1)))) v′
     split e z d = rw (← fromWord-append x (nodes D (k - 1) w) (nodes D (k - 1) (w + 2 ^ (k - 1))), ← below-live D k w z d) (past e (inner-no-leaf D P k w z))
 
     module _ (r v₁ : ℕ) {d : Bool} (e : s ≡ false) (f : d ≡ D k w) (live : d ≡ false) (z : k ≡ 0 → ⊥)
@@ -204,7 +203,7 @@ module _ (D : Dead) (P : List Clause) (A x k w v : ℕ) where
       seek-first h =
           let p = split e z (sym f ∙ live) in
           let q = sought-first (isStableLeaf D P) A (fromWord x (nodes D (k - 1) w)) (fromWord x (nodes D (k - 1) (w + 2 ^ (k - 1)))) v′ (λ q. h (first .word ∙ q)) in
-          record { word = first .word ∙ sym (p .0 ∙ q .0); nodes = first .nodes ∙ sym (p .1 ∙ q .1) }
+          record { word = first .word ∙ sym (p .word ∙ q .0); nodes = first .nodes ∙ sym (p .nodes ∙ q .1) }
 
       pub seek-second : (count reach bit r₂ v₂ : ℕ) → AtNode count k w reach → r ≡ noLeaf → bit ≡ 2 ^ (k - 1)
           → Sought (isStableLeaf D P) A x (nodes D (k - 1) (w + bit)) v₁ r₂ v₂ → Sought (isStableLeaf D P) A x (nodes D k w) v r₂ v₂
@@ -213,6 +212,6 @@ module _ (D : Dead) (P : List Clause) (A x k w v : ℕ) where
           let q = sought-append (isStableLeaf D P) A (fromWord x (nodes D (k - 1) w)) (fromWord x (nodes D (k - 1) (w + 2 ^ (k - 1)))) v′
           (small-words D x (k - 1) w (placed-out k w (at .placed) z)) (sym (first .word) ∙ h) in
           record {
-            word = second .word ∙ rw (b, first .nodes) (sym (p .0 ∙ q .0));
-            nodes = second .nodes ∙ rw (b, first .nodes) (sym (p .1 ∙ q .1));
+            word = second .word ∙ rw (b, first .nodes) (sym (p .word ∙ q .0));
+            nodes = second .nodes ∙ rw (b, first .nodes) (sym (p .nodes ∙ q .1));
           }
