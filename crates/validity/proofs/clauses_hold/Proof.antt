@@ -13,12 +13,6 @@ Inv-loop heads bodies nafs count n k₀ k = Kept (clauseAt heads bodies nafs) co
 abbrev μ-loop : tie.MeasureT-loop
 μ-loop heads bodies nafs count n k₀ k = count - k
 
-returns : tie.Need-returns Inv-loop μ-loop
-returns c = search rules
-
-returns-2 : tie.Need-returns-2 Inv-loop μ-loop
-returns-2 c = search rules
-
 pub clauses-hold-spec : {M : Type 1} → statement M
 clauses-hold-spec = tie.close (tie.spec Inv-loop μ-loop (λ c. search rules) (λ c. search rules) (λ c. search rules) (λ c. search rules) (λ c. search rules) (λ c. search rules)
-    (λ c. search rules) (λ c. search rules) returns (λ c. search rules) (λ c. search rules) (λ c. search rules) returns-2)
+    (λ c. search rules) (λ c. search rules) (λ c. search rules) (λ c. search rules) (λ c. search rules) (λ c. search rules) (λ c. search rules))

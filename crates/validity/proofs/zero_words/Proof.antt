@@ -3,7 +3,6 @@ use Prim.Native.Nat.{_-_}
 use lib.Dec.{eqb}
 use lib.ListN.{length}
 use Rattle.lists.proofs.Loops.{Held}
-use Rattle.program.specs.Valid.{zeroFrom}
 use Rattle.validity.proofs.Rules.{rules}
 use Rattle.validity.proofs.zero_words.Statement.{statement}
 use Rattle.validity.proofs.zero_words.Tie as tie
@@ -14,14 +13,6 @@ Inv-loop s from i₀ i = Held s (eqb 0) from i
 abbrev μ-loop : tie.MeasureT-loop
 μ-loop s from i₀ i = length s - i
 
-returns : tie.Need-returns Inv-loop μ-loop
-unfolding zeroFrom
-returns c = search rules
-
-returns-2 : tie.Need-returns-2 Inv-loop μ-loop
-unfolding zeroFrom
-returns-2 c = search rules
-
 pub zero-words-spec : {M : Type 1} → statement M
-zero-words-spec = tie.close (tie.spec Inv-loop μ-loop (λ c. search rules) (λ c. search rules) (λ c. search rules) returns (λ c. search rules) (λ c. search rules) (λ c. search rules)
-    returns-2)
+zero-words-spec = tie.close (tie.spec Inv-loop μ-loop (λ c. search rules) (λ c. search rules) (λ c. search rules) (λ c. search rules) (λ c. search rules) (λ c. search rules) (λ c. search rules)
+    (λ c. search rules))
