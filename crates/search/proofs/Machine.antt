@@ -119,7 +119,7 @@ module _ (hit : Node → Bool) (x : Node) (xs : List Node) where
 
 -- ---- the end of a run
 module _ (hit : Node → Bool) (A : ℕ) where
-  -- room for all, and allowance for all
+  -- room for all, and a node limit for all
   all-nodes : (xs : List Node) (n v : ℕ) (l : List ℕ) → n + length (hits hit xs) ≤ length l → v + length xs ≤ A
       → runs hit A xs (on n v l) ≡ on (n + length (hits hit xs)) (v + length xs) (sets l n (hits hit xs))
   unfolding runs hits
@@ -163,7 +163,7 @@ module _ (hit : Node → Bool) (A : ℕ) where
           rw (step-miss hit A x n v l (omega arith) e, up-miss hit x xs L e) (next n (v + 1) L l r (omega arith) f
           ∙ let q : v + 1 + fullAt hit xs L ≡ v + suc (fullAt hit xs L) = omega arith in rw q)
 
-  -- a node is left when the allowance is spent
+  -- a node is left when the node limit is spent
   spent-at : (xs : List Node) (n v : ℕ) (l : List ℕ) → 0 < length xs → A ≤ v → runs hit A xs (on n v l) ≡ state (answer Spent n v) l
   unfolding runs
   spent-at [] n v l h s = absurd (omega arith)

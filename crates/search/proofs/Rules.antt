@@ -1,4 +1,4 @@
--- What `search` is handed at the needs of this crate: at a node, and in a turn of the search. Assumes nothing.
+-- What `search` is handed at the needs of this crate: at a node, in a turn of the search, and where it ends. Assumes nothing.
 use borrow.Author.Needs.{needs}
 use Rattle.search.proofs.Dead.{node-tested}
 use Rattle.search.proofs.Visits as visits
@@ -29,16 +29,11 @@ pub ruleset turning = (
   visits.placed-root,
   visits.at-root,
   turns.turn-start,
-  turns.turn-none,
-  turns.turn-spent,
-  turns.turn-full,
   turns.turn-next,
   turns.turn-above,
   turns.turn-below,
   turns.turn-falls,
-  few-clauses,
-  few-atoms,
-  no-table,
-  searched,
   needs,
 )
+
+pub ruleset ending = (turns.turn-none, turns.turn-spent, turns.turn-full, few-clauses, few-atoms, no-table, searched, needs)

@@ -1,4 +1,4 @@
--- What every search answers and lists, for every table, every allowance A and every lent list l. Assumes nothing.
+-- What every search answers and lists, for every table, every node limit A and every lent list l. Assumes nothing.
 use mathlib.Core.Path.{_≡_, refl, sym, ap, _∙_}
 use mathlib.Core.Bool.{Bool, true, false, cond, not}
 use mathlib.Core.Logic.{_⊎_, ⊎-elim}

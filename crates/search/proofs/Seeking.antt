@@ -168,7 +168,7 @@ behind : (x : Node) (xs : List Node) → All (λ u. x .word < u) xs → fromWord
 unfolding fromWord
 behind x xs a = rw (lt-ltb (x .word) (x .word + 1) (omega arith)) (fromWord-all (x .word + 1) xs (all-map _ _ (λ u m. omega arith) xs a))
 
--- ---- one turn: no hit, the allowance spent, a hit
+-- ---- one turn: no hit, the node limit spent, a hit
 module _ (hit : Node → Bool) (A n : ℕ) (l : List ℕ) where
   pub runs-none : (xs : List Node) (v : ℕ) → All (λ u. u < 2 ^ 24) xs → sought hit A xs v ≡ noLeaf → runs hit A xs (on n v l) ≡ on n (after hit A xs v) l
   unfolding runs sought after All

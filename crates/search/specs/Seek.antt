@@ -6,7 +6,7 @@ use Prim.Native.Nat.{ℕ, _+_, _-_, _%_, _^_, _≤_}
 use lib.Dec.{ltb}
 use Rattle.search.specs.Tree.{Node}
 
--- what is answered where no node is a hit, and where the allowance ended before one
+-- what is answered where no node is a hit, and where the node limit ended before one
 abbrev pub noLeaf : ℕ
 noLeaf = 0xffff_ffff
 
@@ -18,7 +18,7 @@ unfoldable pub fromWord : ℕ → List Node → List Node
 fromWord x [] = []
 fromWord x (y ∷ ys) = let r = fromWord x ys in cond (ltb (y .word) x) r (y ∷ r)
 
--- ---- the first hit among xs, with v nodes visited before and the allowance A: its word, and the nodes visited up to it
+-- ---- the first hit among xs, with v nodes visited before and the node limit A: its word, and the nodes visited up to it
 unfoldable pub sought : (Node → Bool) → ℕ → List Node → ℕ → ℕ
 sought hit A [] v = noLeaf
 sought hit A (x ∷ xs) v = let r = sought hit A xs (v + 1) in cond (ltb v A) (cond (hit x) (x .word) r) spent

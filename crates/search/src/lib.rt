@@ -42,7 +42,7 @@ fn next_bit(k: usize) -> u32
     1 << (k - 1)
 }
 
-// Counts the node of the word `w`, unless it was visited before, as those below `from` were; whether the limit forbids it.
+// Counts the node of the word `w`, unless it was visited before, as those below `from` were; whether the node limit forbids it.
 fn tick(w: u32, from: u32, node_limit: u64, visited: &mut u64) -> bool
     ensures { λ r. ⌜ Ticked «node_limit» from w (now (visited .entry)) r (now (visited .exit)) ⌝ }
 {
@@ -57,7 +57,7 @@ fn tick(w: u32, from: u32, node_limit: u64, visited: &mut u64) -> bool
     false
 }
 
-// No node is a p-stable leaf; the limit ended the search before one.
+// No node is a p-stable leaf; the node limit ended the search before one.
 const NONE: u32 = 0xffff_ffff;
 
 const SPENT: u32 = 0xffff_fffe;

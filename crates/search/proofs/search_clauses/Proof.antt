@@ -4,7 +4,7 @@ use Rattle.sets.specs.Lists.{tabulate}
 use Rattle.search.specs.Tree.{dead}
 use Rattle.leaf.specs.Packed.{packedAt}
 use Rattle.search.proofs.Turns.{Searching}
-use Rattle.search.proofs.Rules.{turning}
+use Rattle.search.proofs.Rules.{turning, ending}
 use Rattle.search.proofs.search_clauses.Statement.{statement}
 use Rattle.search.proofs.search_clauses.Tie as tie
 
@@ -17,5 +17,5 @@ abbrev μ-loop : tie.MeasureT-loop
 
 pub search-clauses-spec : {M : Type 1} → statement M
 search-clauses-spec = tie.close (tie.spec Inv-loop μ-loop (λ c. search turning) (λ c. search turning) (λ c. search turning) (λ c. search turning) (λ c. search turning) (λ c. search turning)
-    (λ c. search turning) (λ c. search turning) (λ c. search turning) (λ c. search turning) (λ c. search turning) (λ c. search turning) (λ c. search turning) (λ c. search turning)
+    (λ c. search ending) (λ c. search turning) (λ c. search turning) (λ c. search ending) (λ c. search turning) (λ c. search turning) (λ c. search ending) (λ c. search turning)
     (λ c. search turning) (λ c. search turning) (λ c. search turning) (λ c. search turning) (λ c. search turning))
