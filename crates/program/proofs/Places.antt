@@ -1,5 +1,5 @@
 -- Laws of names, of their places, and of words. Assumes nothing.
-use mathlib.Core.Path.{_≡_, refl, sym, ap, ap₂, _∙_}
+use mathlib.Core.Path.{_≡_, refl, sym, ap, _∙_}
 use mathlib.Core.Bool.{Bool, true, _&&_, and-true}
 use mathlib.Core.List.{List, [], _∷_}
 use Prim.Native.Nat.{ℕ, _+_, _-_, _*_, _/_, _%_, _^_, _≤_, _<_}
@@ -16,7 +16,6 @@ use Rattle.sets.proofs.Highest.{one-shl}
 use Rattle.lists.specs.Bytes.{index, endOf, EndsAt}
 use Rattle.program.specs.Values.{isWord, valueIn}
 use Rattle.program.specs.Names.{isLetter, isPlain, isName, place}
-use Rattle.program.specs.Valid.{zeroFrom, isPlace}
 
 -- ---- words
 pub every-word : (n w : ℕ) → 16 ≤ n → w < 2 ^ 32 → true ≡ isWord n w

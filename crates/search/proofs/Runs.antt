@@ -14,7 +14,7 @@ use Rattle.sets.specs.Words.{bit}
 use Rattle.sets.proofs.Tests.{dec, clash}
 use Rattle.sets.proofs.Rising.{begins-append, begins-take}
 use Rattle.program.specs.declared.Program.{Program}
-use Rattle.program.specs.Clauses.{Clause, clauses, rows, clauseAt}
+use Rattle.program.specs.Clauses.{Clause, clauses, rows}
 use Rattle.program.specs.Valid.{valid}
 use Rattle.program.specs.Refusals.{lowest}
 use Rattle.program.proofs.Validity.{valid-names, valid-clauses}

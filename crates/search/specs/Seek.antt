@@ -4,7 +4,8 @@ use mathlib.Core.Bool.{Bool, cond, not, _&&_}
 use mathlib.Core.List.{List, [], _∷_}
 use Prim.Native.Nat.{ℕ, _+_, _-_, _%_, _^_, _≤_}
 use lib.Dec.{ltb}
-use Rattle.search.specs.Tree.{Node}
+use Rattle.program.specs.Clauses.{Clause}
+use Rattle.search.specs.Tree.{Node, dead, nodes, isStableLeaf}
 
 -- what is answered where no node is a hit, and where the node limit ended before one
 abbrev pub noLeaf : ℕ
@@ -31,6 +32,10 @@ after hit A (x ∷ xs) v = let r = after hit A xs (v + 1) in cond (ltb v A) (con
 pub record Sought (hit : Node → Bool) (A x : ℕ) (xs : List Node) (v r v′ : ℕ) : Type 0 where
   pub word : r ≡ sought hit A (fromWord x xs) v
   pub nodes : v′ ≡ after hit A (fromWord x xs) v
+
+-- the same of the tree of clauses P below the node (k, w), and its p-stable leaves
+abbrev pub SoughtBelow : List Clause → (k w A x v r v′ : ℕ) → Type 0
+SoughtBelow P k w A x v r v′ = Sought (isStableLeaf (dead P) P) A x (nodes (dead P) k w) v r v′
 
 -- ---- a node with the word w is counted where it was not visited before
 unfoldable pub stops : ℕ → ℕ → ℕ → ℕ → Bool

@@ -2,10 +2,10 @@
 ghost use mathlib.Core.Path.{_≡_};
 ghost use Prim.Native.Nat.{_+_, _-_, _*_, _^_, _≤_, _<_};
 ghost use Rattle.sets.specs.Lists.{tabulate};
-ghost use Rattle.search.specs.Tree.{dead, nodes, isStableLeaf};
+ghost use Rattle.search.specs.Tree.{dead};
 ghost use Rattle.search.specs.Answer.{answer, Searches, Ends};
 ghost use Rattle.leaf.specs.Packed.{packedAt};
-ghost use Rattle.search.specs.Seek.{Placed, AtNode, Ticked, Sought};
+ghost use Rattle.search.specs.Seek.{Placed, AtNode, Ticked, SoughtBelow};
 use program::Outcome;
 use program::Program;
 
@@ -76,7 +76,7 @@ fn seek(
     visited: &mut u64,
 ) -> u32
     requires { ⌜ AtNode count k w reach ⌝ }
-    ensures { λ r. ⌜ Sought (isStableLeaf (dead (tabulate (packedAt (now (table .entry))) count)) (tabulate (packedAt (now (table .entry))) count)) «node_limit» from (nodes (dead (tabulate (packedAt (now (table .entry))) count)) k w) (now (visited .entry)) r (now (visited .exit)) ⌝ }
+    ensures { λ r. ⌜ SoughtBelow (tabulate (packedAt (now (table .entry))) count) k w «node_limit» from (now (visited .entry)) r (now (visited .exit)) ⌝ }
 {
     if reach < from {
         return NONE;

@@ -1,4 +1,4 @@
--- `search::seek` meets its contract: it calls itself with fewer undecided bits, and each way to leave a node is a law. Assumes nothing.
+-- `search::seek` meets its contract: it calls itself with fewer undecided bits, and `seeking` has one law for each way to leave a node. Assumes nothing.
 use Prim.Native.Nat.{ℕ, _<_}
 use borrow.Fn.Kinds.{In}
 use borrow.Fn.PlainCycle.{Measures, is, falls, and}

@@ -1,4 +1,4 @@
--- `search::search_clauses` meets its contract: each turn of the loop seeks the next p-stable leaf, and goes on behind it. Assumes nothing.
+-- `search::search_clauses` meets its contract: what is left of the run from the word `from` on, with what is listed so far, is the whole run; one law for each way to end a turn. Assumes nothing.
 use Prim.Native.Nat.{_-_, _^_}
 use Rattle.sets.specs.Lists.{tabulate}
 use Rattle.search.specs.Tree.{dead}
