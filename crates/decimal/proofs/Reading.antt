@@ -1,6 +1,6 @@
 -- Reading a number digit by digit, and putting it. Assumes nothing.
 use mathlib.Core.Path.{_≡_, refl, sym, ap, ap₂, _∙_}
-use mathlib.Core.Bool.{Bool, true, false, _&&_, _||_, and-false}
+use mathlib.Core.Bool.{Bool, true, false, not, _&&_, _||_, and-false}
 use mathlib.Core.Logic.{⊎-elim}
 use mathlib.Core.List.{List, [], _∷_, _++_}
 use Prim.Native.Nat.{ℕ, zero, suc, _+_, _-_, _*_, _/_, _%_, _^_, _≤_, _<_}
@@ -10,7 +10,7 @@ use lib.Dec.{ltb, leb}
 use lib.ListN.{length, getD, take, set, length-append}
 use lib.Seq.{take-all, take-suc, take-append-seam, getD-append-add}
 use borrow.Author.Tests.{lt-ltb, le-ltb, le-leb, lt-leb, ltb-true, ltb-false, leb-true}
-use Rattle.sets.proofs.Tests.{lt-or-ge, both-true, both-false, clash}
+use Rattle.sets.proofs.Tests.{lt-or-ge, both-true, both-false, clash, via-true}
 use Rattle.lists.specs.Bytes.{Wrote}
 use Rattle.lists.proofs.Writing.{Put, put-byte, put-done, put-long, wrote-put}
 use Rattle.decimal.specs.declared.Parsed.the-variants.{Number, Nothing}
@@ -111,8 +111,13 @@ goes-true : (v d bound : ℕ) → 1 ≤ v → d < 10 → 10 * v + d ≤ bound �
 unfolding goesOn
 goes-true v d bound a b c = rw (le-leb 1 v a, lt-ltb d 10 b, le-leb (10 * v + d) bound c)
 
-pub parse-fits : (v d bound : ℕ) → goesOn v d bound ≡ true → 10 * v + d ≤ bound
-parse-fits v d bound t = goes-parts v d bound t .small
+-- the sum, and the product in it, are at most the bound, and so fit where it does
+module _ (v d bound : ℕ) {r : Bool} (e : r ≡ goesOn v d bound) (t : not r ≡ false) (f : bound < 2 ^ 64) where
+  pub parse-fits : 10 * v + d < 2 ^ 64
+  parse-fits = omega (arith, goes-parts v d bound (via-true e t) .small)
+
+  pub parse-tens-fit : 10 * v < 2 ^ 64
+  parse-tens-fit = omega (arith, goes-parts v d bound (via-true e t) .small)
 
 -- ---- reading
 module _ (s : List ℕ) (bound : ℕ) where
@@ -158,9 +163,9 @@ module _ (s : List ℕ) (bound : ℕ) where
       let y : d ≡ u = e ∙ ap digitOf (sym x) ∙ digit-of u k in
       clash (ltb 9 d || ltb bound d) t (rw (le-ltb 9 d (omega arith), le-ltb bound d (omega (arith, r .2)))))
 
-  pub parse-more : (i v d : ℕ) → Parsing i v → i < length s → d ≡ digitOf (getD s i 0) → goesOn v d bound ≡ true → Parsing (i + 1) (10 * v + d)
-  parse-more i v d p h e t =
-      let g = goes-parts v d bound t in
+  pub parse-more : (i v d : ℕ) {r : Bool} → Parsing i v → i < length s → d ≡ digitOf (getD s i 0) → r ≡ goesOn v d bound → not r ≡ false → Parsing (i + 1) (10 * v + d)
+  parse-more i v d p h e q t =
+      let g = goes-parts v d bound (via-true q t) in
       let l = g .digit in
       record {
         one-up = omega arith;
@@ -220,6 +225,9 @@ module _ (v n : ℕ) (xs ys : List ℕ) (h : 10 ≤ v) (l : length (decimal v) �
 
   pub put-behind : n < length ys
   put-behind = omega (arith, w .size, length-more v h, put-long xs (decimal v) n ys _ next)
+
+  pub put-fits : length xs < 2 ^ 64 → n + 1 < 2 ^ 64
+  put-fits f = omega (arith, w .size, length-more v h)
 
   pub put-more : (b : ℕ) → b ≡ 48 + v % 10 → Wrote (decimal v) xs (n + 1) (set ys n b)
   put-more b e = rw e (put-done xs (decimal v) (n + 1) (set ys n (48 + v % 10)) (put-byte xs (decimal v) n ys (48 + v % 10) [] next))

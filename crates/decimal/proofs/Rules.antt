@@ -1,6 +1,8 @@
--- What `search` is handed at the needs of this crate. Assumes nothing.
+-- What `search` is handed at the needs of this crate: read, measured, put. Assumes nothing.
 use Rattle.lists.proofs.Loops.{loops}
-use Rattle.decimal.proofs.Reading.{digit-low, digit-high, digit-is, over-bound, goes, parse-empty, parse-start, parse-not, parse-more, parse-fits, parse-stop, parse-done, counting-start, counting-more, counting-small, counting-done, put-some, put-one, put-behind, put-more, tens-room}
+use Rattle.decimal.proofs.Reading.{digit-low, digit-high, digit-is, over-bound, goes, parse-empty, parse-start, parse-not, parse-more}
+use Rattle.decimal.proofs.Reading.{parse-fits, parse-tens-fit, parse-stop, parse-done, counting-start, counting-more, counting-small, counting-done}
+use Rattle.decimal.proofs.Reading.{put-some, put-one, put-behind, put-fits, put-more, tens-room}
 
 pub ruleset rules = (
   digit-low,
@@ -13,6 +15,7 @@ pub ruleset rules = (
   parse-not,
   parse-more,
   parse-fits,
+  parse-tens-fit,
   parse-stop,
   parse-done,
   counting-start,
@@ -22,6 +25,7 @@ pub ruleset rules = (
   put-some,
   put-one,
   put-behind,
+  put-fits,
   put-more,
   tens-room,
   loops,

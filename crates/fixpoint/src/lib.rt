@@ -192,7 +192,7 @@ pub fn fixpoint(
 ) -> FixpointAnswer
     ensures { λ r. ⌜ Fixes p (now (models .entry)) (now (work .entry)) (now («more_work» .entry)) r (now (models .exit)) (now (work .exit)) (now («more_work» .exit)) ⌝ }
 {
-    if !program::is_valid(p) {
+    if !validity::is_valid(p) {
         return refuse(program::INVALID_PROGRAM);
     }
     let m = literal_count(p.atom_count);

@@ -14,7 +14,7 @@ use borrow.Author.Tests.{eqb-true, eq-eqb, ne-eqb}
 use Rattle.sets.specs.Lists.{every, anyOf, onward, tabulate}
 use Rattle.sets.proofs.Tests.{both-true, via, via-true, via-false}
 use Rattle.sets.proofs.Lists.{onward-start, onward-step, onward-done, kept-start, kept-not, kept-more, kept-done, lacks-start, lacks-not, lacks-more, lacks-done}
-use Rattle.lists.specs.Bytes.{pieces, left, ended, index, endOf, count, oneIf, same, distinct, EndsAt, Counts}
+use Rattle.lists.specs.Bytes.{pieces, left, ended, index, endOf, count, oneIf, same, distinct, EndsAt, CountOf}
 use Rattle.lists.proofs.Pieces.{part, left-start, left-step, left-done, line-step, line-done, end-ge}
 
 -- ---- loops over the pieces
@@ -121,7 +121,7 @@ module _ (xs : List ℕ) where
         go true e f = record { within = omega arith; small = omega (arith, s .small); rest = omega (arith, s .rest) }
         go false e f = record { within = omega arith; small = omega (arith, s .small); rest = omega (arith, s .rest) }
 
-    pub count-done : (i n : ℕ) → Counted i n → length xs ≤ i → Counts c xs n
+    pub count-done : (i n : ℕ) → Counted i n → length xs ≤ i → CountOf c xs n
     unfolding count
     count-done i n s h = record {
       is = sym (add-zero n) ∙ sym (ap (λ (l : List ℕ). n + count c l) (at-end i h)) ∙ s .rest;

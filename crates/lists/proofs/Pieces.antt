@@ -122,10 +122,6 @@ module _ (c : ℕ) where
   abbrev pub Free : List ℕ → Type 0
   Free xs = index c xs ≡ length xs
 
-  lead : (p : List ℕ) (ps : List (List ℕ)) → led c (p ∷ ps) ≡ c ∷ join c (p ∷ ps)
-  unfolding join led
-  lead p ps = refl
-
   pub join-pieces : (xs : List ℕ) → join c (pieces c xs) ≡ xs
   unfolding pieces join led onto
   join-pieces [] = refl

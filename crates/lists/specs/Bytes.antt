@@ -93,7 +93,7 @@ pub record EndsAt (xs : List ℕ) (c at e : ℕ) : Type 0 where
   pub to : e ≤ max at (length xs)
 
 -- c stands r times in xs
-pub record Counts (c : ℕ) (xs : List ℕ) (r : ℕ) : Type 0 where
+pub record CountOf (c : ℕ) (xs : List ℕ) (r : ℕ) : Type 0 where
   pub is : r ≡ count c xs
   pub small : r ≤ length xs
 

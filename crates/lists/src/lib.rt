@@ -2,7 +2,7 @@
 ghost use mathlib.Core.Path.{_≡_};
 ghost use Prim.Native.Nat.{_≤_};
 ghost use lib.ListN.{length};
-ghost use Rattle.lists.specs.Bytes.{EndsAt, Counts, Wrote, same, oneIf};
+ghost use Rattle.lists.specs.Bytes.{EndsAt, CountOf, Wrote, same, oneIf};
 
 // The place of the first `c` from `at` on, or the length where there is none; `at` where it lies behind the end.
 pub fn end_of(s: &[u8], at: usize, c: u8) -> usize
@@ -20,7 +20,7 @@ pub fn end_of(s: &[u8], at: usize, c: u8) -> usize
 
 // How often `c` stands in `s`.
 pub fn count_of(s: &[u8], c: u8) -> usize
-    ensures { λ r. ⌜ Counts c (now (s .entry)) r ⌝ }
+    ensures { λ r. ⌜ CountOf c (now (s .entry)) r ⌝ }
 {
     let mut n: usize = 0;
     let mut i: usize = 0;

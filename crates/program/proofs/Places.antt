@@ -1,19 +1,21 @@
 -- Laws of names, of their places, and of words. Assumes nothing.
-use mathlib.Core.Path.{_≡_, refl, sym, ap, ap₂, _∙_}
+use mathlib.Core.Path.{_≡_, refl, sym, ap, _∙_}
 use mathlib.Core.Bool.{Bool, true, _&&_, and-true}
 use mathlib.Core.List.{List, [], _∷_}
-use Prim.Native.Nat.{ℕ, _+_, _-_, _*_, _%_, _^_, _≤_, _<_}
+use Prim.Native.Nat.{ℕ, _+_, _-_, _*_, _/_, _%_, _^_, _≤_, _<_}
 use native.Mathlib.Nat.{zero-add, div-eq-of-lt}
 use native.Mathlib.Omega.{arith}
+use lib.Bits.{bitAnd, and-le-r, and-mask}
+use lib.Dec.{leb, ltb}
 use lib.Pow.{pow-mono}
 use lib.ListN.{length, getD, take, drop, length-drop}
 use lib.Seq.{length-take-le}
 use borrow.Author.Tests.{lt-ltb}
 use Rattle.sets.specs.Lists.{every}
+use Rattle.sets.proofs.Highest.{one-shl}
 use Rattle.lists.specs.Bytes.{index, endOf, EndsAt}
 use Rattle.program.specs.Values.{isWord, valueIn}
-use Rattle.program.specs.Names.{isName, place}
-use Rattle.program.specs.Valid.{zeroFrom, isPlace}
+use Rattle.program.specs.Names.{isLetter, isPlain, isName, place}
 
 -- ---- words
 pub every-word : (n w : ℕ) → 16 ≤ n → w < 2 ^ 32 → true ≡ isWord n w
@@ -26,7 +28,26 @@ no-value w i h l =
     let b : w < 2 ^ (2 * i) = omega (arith, pow-mono {i = 32} {j = 2 * i} (omega arith)) in
     sym (ap (λ x. x % 4) (div-eq-of-lt b))
 
+pub word-below : (n w : ℕ) → n < 16 → ltb w (1 * 2 ^ (2 * n) % 2 ^ 32) ≡ isWord n w
+unfolding isWord
+word-below n w h = ap (ltb w) (one-shl 32 (2 * n) (omega arith))
+
+pub value-masked : (w i r : ℕ) → r ≡ w / 2 ^ (2 * i) % 4 → r ≡ valueIn w i
+unfolding valueIn
+value-masked w i r e = e
+
+-- a mask below 256 leaves a byte; the mask 3 leaves the two lowest bits
+pub mask-fits : (w m : ℕ) → m < 256 → bitAnd w m < 256
+mask-fits w m h = omega (arith, and-le-r w m)
+
+pub mask-three : (w : ℕ) → bitAnd w 3 ≡ w % 4
+mask-three w = and-mask w 2
+
 -- ---- names
+pub name-is : (xs : List ℕ) (a b : Bool) → a ≡ every isPlain xs → b ≡ every isLetter (take 1 xs) → leb 1 (length xs) && leb (length xs) 8 && a && b ≡ isName xs
+unfolding isName
+name-is xs a b e f = rw (e, f)
+
 pub first-none : (p : ℕ → Bool) (xs : List ℕ) → length xs ≡ 0 → true ≡ every p (take 1 xs)
 unfolding every
 first-none p [] h = refl
@@ -45,12 +66,6 @@ pub up-to : (c : ℕ) (xs : List ℕ) (n : ℕ) → EndsAt xs c 0 n → length (
 up-to c xs n e = length-take-le n xs (omega (arith, e .to))
 
 -- ---- places
-pub place-is : (xs : List ℕ) (n : ℕ) (a b : Bool) → EndsAt xs 0 0 n → a ≡ isName (take n xs) → b ≡ zeroFrom n xs → a && b ≡ isPlace xs
-unfolding isPlace
-place-is xs n a b e f g =
-    let h : n ≡ index 0 xs = e .is ∙ end-zero 0 xs in
-    ap₂ _&&_ (f ∙ ap (λ (k : ℕ). isName (take k xs)) h) (g ∙ ap (λ (k : ℕ). zeroFrom k xs) h)
-
 pub place-part : (xs : List ℕ) (i : ℕ) → take (8 * i + 8 - 8 * i) (drop (8 * i) xs) ≡ place xs i
 unfolding place
 place-part xs i = let e : 8 * i + 8 - 8 * i ≡ 8 = omega arith in rw e

@@ -1,10 +1,10 @@
--- Refusal 9, test by test, and what a valid table is. Assumes nothing.
+-- What a valid table is, by name. Assumes nothing.
 use mathlib.Core.Path.{_≡_}
-use mathlib.Core.Bool.{Bool, true, false, not, _&&_, and-false}
+use mathlib.Core.Bool.{true, not, _&&_}
 use mathlib.Core.List.{List}
-use Prim.Native.Nat.{ℕ, _*_, _≤_, _<_}
+use Prim.Native.Nat.{ℕ, _*_, _≤_}
 use lib.Dec.{eqb, leb}
-use borrow.Author.Tests.{le-leb, lt-leb, leb-true, ltb-true}
+use borrow.Author.Tests.{leb-true, ltb-true}
 use Rattle.sets.specs.Lists.{Each, every, tabulate}
 use Rattle.sets.proofs.Tests.{both-true}
 use Rattle.sets.proofs.Lists.{every-each}
@@ -15,36 +15,6 @@ use Rattle.program.specs.Values.{isWord}
 use Rattle.program.specs.Names.{place}
 use Rattle.program.specs.Valid.{zeroFrom, isPlace, namesValid, isClause, clausesValid, valid}
 
-module _ (xs : List ℕ) (n : ℕ) where
-  pub names-none : n < 1 → false ≡ namesValid xs n
-  unfolding namesValid
-  names-none h = rw (lt-leb 1 n h)
-
-  pub names-many : 12 < n → false ≡ namesValid xs n
-  unfolding namesValid
-  names-many h = rw (lt-leb n 12 h, and-false (leb 1 n))
-
-  pub names-are : (a b c : Bool) → 1 ≤ n → n ≤ 12
-      → a ≡ every isPlace (tabulate (place xs) n) → b ≡ distinct (tabulate (place xs) n) → c ≡ zeroFrom (8 * n) xs → a && b && c ≡ namesValid xs n
-  unfolding namesValid
-  names-are a b c h k e f g = rw (le-leb 1 n h, le-leb n 12 k, ← e, ← f, ← g)
-
-module _ (hs bs ns : List ℕ) (count n : ℕ) where
-  pub clauses-many : 64 < count → false ≡ clausesValid hs bs ns count n
-  unfolding clausesValid
-  clauses-many h = rw (lt-leb count 64 h)
-
-  pub clauses-are : (a b c d : Bool) → count ≤ 64 → a ≡ every (isClause n) (tabulate (clauseAt hs bs ns) count)
-      → b ≡ zeroFrom count hs → c ≡ zeroFrom count bs → d ≡ zeroFrom count ns → a && b && c && d ≡ clausesValid hs bs ns count n
-  unfolding clausesValid
-  clauses-are a b c d h e f g k = rw (le-leb count 64 h, ← e, ← f, ← g, ← k)
-
-pub valid-is : (p : Program) (a b : Bool) → a ≡ namesValid (p .«atom_names») (p .«atom_count»)
-    → b ≡ clausesValid (p .heads) (p .bodies) (p .nafs) (p .«clause_count») (p .«atom_count») → a && b ≡ valid p
-unfolding valid
-valid-is p a b e f = rw (← e, ← f)
-
--- ---- what a valid table is, by name
 pub record NamesParts (xs : List ℕ) (n : ℕ) : Type 0 where
   pub one-up : 1 ≤ n
   pub few : n ≤ 12

@@ -10,6 +10,11 @@ use Rattle.lists.specs.Bytes.{oneIf}
 use Rattle.program.specs.Clauses.{Clause}
 use Rattle.program.specs.Values.{valueIn, clauseValue, sumFor}
 
+-- one of "the four values"
+pub value-lt : (w i : ℕ) → valueIn w i < 4
+unfolding valueIn
+value-lt w i = omega arith
+
 -- a bit as a number is the digit
 bit-number : (w i : ℕ) → oneIf (bit w i) ≡ digit i w
 unfolding bit

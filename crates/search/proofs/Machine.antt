@@ -119,7 +119,7 @@ module _ (hit : Node → Bool) (x : Node) (xs : List Node) where
 
 -- ---- the end of a run
 module _ (hit : Node → Bool) (A : ℕ) where
-  -- room for all, and allowance for all
+  -- room for all, and a node limit for all
   all-nodes : (xs : List Node) (n v : ℕ) (l : List ℕ) → n + length (hits hit xs) ≤ length l → v + length xs ≤ A
       → runs hit A xs (on n v l) ≡ on (n + length (hits hit xs)) (v + length xs) (sets l n (hits hit xs))
   unfolding runs hits
@@ -156,13 +156,14 @@ module _ (hit : Node → Bool) (A : ℕ) where
           let q : n ≡ length l = omega arith in
           rw (step-full hit A x n v l (omega arith) e (omega arith), runs-ended hit A xs (state (answer Full n (v + 1)) l) refl, up-first hit x xs e, q)
       go true e (suc L) r f next =
-          rw (step-hit hit A x n v l (omega arith) e (omega arith), up-hit hit x xs L e) (next (n + 1) (v + 1) L (set l n (x .word)) (omega (arith, length-set l n (x .word))) (omega arith) (omega arith)
+          rw (step-hit hit A x n v l (omega arith) e (omega arith), up-hit hit x xs L e) (next (n + 1) (v + 1) L (set l n (x .word))
+          (omega (arith, length-set l n (x .word))) (omega arith) (omega arith)
           ∙ let q : v + 1 + fullAt hit xs L ≡ v + suc (fullAt hit xs L) = omega arith in rw (q, add-one n, length-set l n (x .word)))
       go false e L r f next =
           rw (step-miss hit A x n v l (omega arith) e, up-miss hit x xs L e) (next n (v + 1) L l r (omega arith) f
           ∙ let q : v + 1 + fullAt hit xs L ≡ v + suc (fullAt hit xs L) = omega arith in rw q)
 
-  -- a node is left when the allowance is spent
+  -- a node is left when the node limit is spent
   spent-at : (xs : List Node) (n v : ℕ) (l : List ℕ) → 0 < length xs → A ≤ v → runs hit A xs (on n v l) ≡ state (answer Spent n v) l
   unfolding runs
   spent-at [] n v l h s = absurd (omega arith)
@@ -193,7 +194,8 @@ runs-answer hit A xs l = ⊎-elim full roomy (dec (ltb (length l) (length (hits 
     full : ltb (length l) (length (hits hit (take A xs))) ≡ true → runs hit A xs (on 0 0 l) ≡ state (runAnswer hit xs A (length l)) (runExit hit xs A l)
     full t =
         let f = ltb-true _ _ t in
-        rw t (no-room hit A xs A 0 0 (length l) l (omega arith) (omega arith) f ∙ rw (zero-add, at-start (take (length l) (hits hit (take A xs))) l (omega (arith, length-take (length l) (hits hit (take A xs))))))
+        rw t (no-room hit A xs A 0 0 (length l) l (omega arith) (omega arith) f
+        ∙ rw (zero-add, at-start (take (length l) (hits hit (take A xs))) l (omega (arith, length-take (length l) (hits hit (take A xs))))))
 
     ends : (b : Bool) → ltb A (length xs) ≡ b → length (hits hit (take A xs)) ≤ length l
         → runs hit A xs (on 0 0 l) ≡ state (cond b (answer Spent (length (hits hit (take A xs))) A) (answer Complete (length (hits hit (take A xs))) (length xs))) (startWith (hits hit (take A xs)) l)

@@ -5,7 +5,7 @@ use mathlib.Core.List.{List, [], _∷_, _++_}
 use Prim.Native.Nat.{ℕ, zero, suc, _+_, _-_, _*_, _/_, _%_, _^_, _<_}
 use native.Mathlib.Nat.{pow-suc, add-zero, mod-one, mod-mod, mod-lt, add-mod-right, zero-mod}
 use native.Mathlib.Omega.{arith}
-use lib.Dec.{eqb, eqb·suc-zero}
+use lib.Dec.{eqb·suc-zero}
 use lib.Pow.{mod-mod-pow, pow-pos, ones-lt, split}
 use lib.Bits.{bitAnd, and-block, and-zero-l, and-zero-r, and-mask}
 use lib.ListN.{length, length-append}
@@ -15,7 +15,7 @@ use Rattle.sets.specs.Words.{inside, apart}
 use Rattle.sets.proofs.Tests.{clash, both-true, and-is-true}
 use Rattle.sets.proofs.Lists.{upFrom-add, upFrom-in, sift-append, sift-none}
 use Rattle.program.specs.Clauses.{Clause}
-use Rattle.semantics.specs.Interpretations.{reduct, isModel, violates, leastSmaller, isStable, models}
+use Rattle.semantics.specs.Interpretations.{reduct, isModel, violates, isStable, models}
 use Rattle.stable.proofs.Checking.{model-cons}
 use Rattle.search.specs.Tree.{Node, node, Dead, decided, deadBy, dead, nodes, tree, isStableLeaf, hits, stableLeaves}
 
@@ -88,16 +88,6 @@ pub live-leaf : (P : List Clause) (w : ℕ) → isModel (reduct P w) w ≡ not (
 unfolding dead anyOf isModel reduct
 live-leaf [] w = refl
 live-leaf (c ∷ P) w = model-cons c P w w ∙ rw (live-leaf P w, dead-one w c) (sym (not-or (violates w w c) (dead P 0 w)))
-
--- no proper subset of I satisfies the reduct by I
-unfoldable pub isMinimal : List Clause → ℕ → Bool
-unfolding leastSmaller
-isMinimal P I = eqb (leastSmaller P I) I
-
--- p-stable: live, and no smaller subset satisfies the reduct
-pub stable-leaf : (P : List Clause) (w : ℕ) → isStable P w ≡ not (dead P 0 w) && isMinimal P w
-unfolding isStable isMinimal
-stable-leaf P w = rw (live-leaf P w)
 
 -- ---- the p-stable leaves of a tree, for a dead test below whose dead nodes no leaf is p-stable
 pub hits-append : (hit : Node → Bool) (xs ys : List Node) → hits hit (xs ++ ys) ≡ hits hit xs ++ hits hit ys

@@ -1,36 +1,39 @@
--- What `search` is handed at the needs of this crate. Assumes nothing.
+-- What `search` is handed at the needs of this crate: at a node, in a turn of the search, and where it ends. Assumes nothing.
 use borrow.Author.Needs.{needs}
-use Rattle.search.proofs.Packing.{pack-start, pack-more, pack-done}
-use Rattle.search.proofs.Loops.{look-start, look-on, look-hit, look-none, node-tested, ruled-out, is-support, no-support, gather-none, gather-one, gather-all, leaf-unsupported}
-use Rattle.search.proofs.Subsets.{branch-cut, branch-end, leaf-tested, all-open}
-use Rattle.search.proofs.Visits.{tick-before, tick-spent, tick-one, seek-passed, seek-spent, seek-dead, seek-unstable, seek-leaf}
-use Rattle.search.proofs.Turns.{turn-start, turn-next, turn-above, turn-below, turn-falls}
-use Rattle.search.proofs.Runs.{no-table, searched}
+use Rattle.search.proofs.Dead.{node-tested}
+use Rattle.search.proofs.Visits as visits
+use Rattle.search.proofs.Turns as turns
+use Rattle.search.proofs.Runs.{few-clauses, few-atoms, no-table, searched}
 
--- at a clause and at a leaf; on the way through the tree; in a turn of the search
-pub ruleset rules = (
-  pack-start,
-  pack-more,
-  pack-done,
-  look-start,
-  look-on,
-  look-hit,
-  look-none,
+pub ruleset seeking = (
   node-tested,
-  ruled-out,
-  is-support,
-  no-support,
-  gather-none,
-  gather-one,
-  gather-all,
-  leaf-unsupported,
-  branch-cut,
-  branch-end,
-  leaf-tested,
-  all-open,
+  visits.bit-fits,
+  visits.word-fits,
+  visits.at-first,
+  visits.at-second,
+  visits.leaf-live,
+  visits.tick-before,
+  visits.tick-spent,
+  visits.tick-one,
+  visits.seek-passed,
+  visits.seek-spent,
+  visits.seek-dead,
+  visits.seek-unstable,
+  visits.seek-leaf,
+  visits.seek-first,
+  visits.seek-second,
   needs,
 )
 
-pub ruleset seeking = (tick-before, tick-spent, tick-one, seek-passed, seek-spent, seek-dead, seek-unstable, seek-leaf, needs)
+pub ruleset turning = (
+  visits.placed-root,
+  visits.at-root,
+  turns.turn-start,
+  turns.turn-next,
+  turns.turn-above,
+  turns.turn-below,
+  turns.turn-falls,
+  needs,
+)
 
-pub ruleset turning = (turn-start, turn-next, turn-above, turn-below, turn-falls, no-table, searched, needs)
+pub ruleset ending = (turns.turn-none, turns.turn-spent, turns.turn-full, few-clauses, few-atoms, no-table, searched, needs)

@@ -1,4 +1,4 @@
--- What every search answers and lists, for every table, every allowance A and every lent list l. Assumes nothing.
+-- What every search answers and lists, for every table, every node limit A and every lent list l. Assumes nothing.
 use mathlib.Core.Path.{_≡_, refl, sym, ap, _∙_}
 use mathlib.Core.Bool.{Bool, true, false, cond, not}
 use mathlib.Core.Logic.{_⊎_, ⊎-elim}
@@ -14,7 +14,7 @@ use Rattle.sets.specs.Words.{bit}
 use Rattle.sets.proofs.Tests.{dec, clash}
 use Rattle.sets.proofs.Rising.{begins-append, begins-take}
 use Rattle.program.specs.declared.Program.{Program}
-use Rattle.program.specs.Clauses.{Clause, clauses, rows, clauseAt}
+use Rattle.program.specs.Clauses.{Clause, clauses, rows}
 use Rattle.program.specs.Valid.{valid}
 use Rattle.program.specs.Refusals.{lowest}
 use Rattle.program.proofs.Validity.{valid-names, valid-clauses}
@@ -25,8 +25,8 @@ use Rattle.program.specs.declared.Outcome.the-variants.{Complete, Full, Spent, 
 use Rattle.search.specs.declared.SearchAnswer.{SearchAnswer}
 use Rattle.search.specs.Tree.{Node, Dead, dead, tree, nodeCount, hits, stableLeaves}
 use Rattle.search.specs.Answer.{answer, overfull, fullAt, runAnswer, listing, runExit, leafOf, nodesOf, refusal, answerOf, exitOf, listed, Searches, Ends}
-use Rattle.search.specs.Packed.{packedRows, Packs}
-use Rattle.search.proofs.Packing.{packed-rows}
+use Rattle.leaf.specs.Packed.{packedAt, Packs}
+use Rattle.leaf.proofs.Packing.{packed-same}
 use Rattle.search.proofs.Nodes.{hits-append, leaves-models, unstable-below, count-nodes}
 
 -- ---- the tree
@@ -136,15 +136,18 @@ module _ (p : Program) (A : ℕ) (l : List ℕ) where
   no-table {v} e h q = let r = refused (sym e ∙ not-true v h) in record { says = q ∙ sym (r .0); lists = sym (r .1) }
 
   pub searched : {v : Bool} {a : SearchAnswer} {m t : List ℕ} → v ≡ valid p → not v ≡ false → Packs (p .heads) (p .bodies) (p .nafs) t
-      → Ends (dead (packedRows t (p .«clause_count»))) (packedRows t (p .«clause_count»)) (p .«atom_count») A l a m → Searches p A l a m
+      → Ends (dead (tabulate (packedAt t) (p .«clause_count»))) (tabulate (packedAt t) (p .«clause_count»)) (p .«atom_count») A l a m → Searches p A l a m
   unfolding clauses rows
   searched {v} {a} {m} {t} e h k q =
       let u = sym e ∙ not-false v h in
       let r = accepted u in
-      let w : Ends (dead (tabulate (clauseAt (p .heads) (p .bodies) (p .nafs)) (p .«clause_count»))) (tabulate (clauseAt (p .heads) (p .bodies) (p .nafs)) (p .«clause_count»)) (p .«atom_count») A l a m =
-      rw (packed-rows (p .heads) (p .bodies) (p .nafs) t (p .«clause_count») k (valid-clauses p u .short)) at q in
+      let w = rw (packed-same (p .heads) (p .bodies) (p .nafs) t (p .«clause_count») k (valid-clauses p u .short)) at q in
       record { says = w .says ∙ sym (r .0); lists = w .lists ∙ sym (r .1) }
 
 -- what the run asks of its table
-pub asks : (p : Program) {v : Bool} → v ≡ valid p → not v ≡ false → (p .«clause_count» ≤ 64) × (p .«atom_count» ≤ 12)
-asks p {v} e h = let t = sym e ∙ not-false v h in (valid-clauses p t .short, valid-names p t .few)
+module _ (p : Program) {v : Bool} (e : v ≡ valid p) (h : not v ≡ false) where
+  pub few-clauses : p .«clause_count» ≤ 64
+  few-clauses = valid-clauses p (sym e ∙ not-false v h) .short
+
+  pub few-atoms : p .«atom_count» ≤ 12
+  few-atoms = valid-names p (sym e ∙ not-false v h) .few

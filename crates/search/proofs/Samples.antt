@@ -40,7 +40,7 @@ pub no-clause-nodes : nodeCount (dead []) 1 ≡ 7
 unfolding nodes dead anyOf
 no-clause-nodes = refl
 
--- no allowance: spent, with none visited
+-- node limit 0: spent, with none visited
 pub none-allowed : runAnswer (isStableLeaf (dead fell) fell) (tree (dead fell) 2) 0 4096 ≡ answer Spent 0 0
 unfolding runAnswer nodes dead isStableLeaf clauseOfValues wordBy bitsOf wordOf
 none-allowed = refl

@@ -82,7 +82,8 @@ module _ (hit : Node → Bool) (A : ℕ) where
   sought-append (x ∷ xs) ys v a e = go (ltb v A) (hit x) e (sought-append xs ys (v + 1) (a .1))
     where
       go : (b c : Bool) → cond b (cond c (x .word) (sought hit A xs (v + 1))) spent ≡ noLeaf
-          → (sought hit A xs (v + 1) ≡ noLeaf → (sought hit A (xs ++ ys) (v + 1) ≡ sought hit A ys (after hit A xs (v + 1))) × (after hit A (xs ++ ys) (v + 1) ≡ after hit A ys (after hit A xs (v + 1))))
+          → (sought hit A xs (v + 1) ≡ noLeaf
+          → (sought hit A (xs ++ ys) (v + 1) ≡ sought hit A ys (after hit A xs (v + 1))) × (after hit A (xs ++ ys) (v + 1) ≡ after hit A ys (after hit A xs (v + 1))))
           → (cond b (cond c (x .word) (sought hit A (xs ++ ys) (v + 1))) spent ≡ sought hit A ys (cond b (cond c (v + 1) (after hit A xs (v + 1))) v))
           × (cond b (cond c (v + 1) (after hit A (xs ++ ys) (v + 1))) v ≡ after hit A ys (cond b (cond c (v + 1) (after hit A xs (v + 1))) v))
       go true true e r = absurd (omega (arith, a .0))
@@ -167,7 +168,7 @@ behind : (x : Node) (xs : List Node) → All (λ u. x .word < u) xs → fromWord
 unfolding fromWord
 behind x xs a = rw (lt-ltb (x .word) (x .word + 1) (omega arith)) (fromWord-all (x .word + 1) xs (all-map _ _ (λ u m. omega arith) xs a))
 
--- ---- one turn: no hit, the allowance spent, a hit
+-- ---- one turn: no hit, the node limit spent, a hit
 module _ (hit : Node → Bool) (A n : ℕ) (l : List ℕ) where
   pub runs-none : (xs : List Node) (v : ℕ) → All (λ u. u < 2 ^ 24) xs → sought hit A xs v ≡ noLeaf → runs hit A xs (on n v l) ≡ on n (after hit A xs v) l
   unfolding runs sought after All

@@ -11,7 +11,8 @@ use Rattle.search.specs.Tree.{Dead, tree, isStableLeaf}
 use Rattle.search.specs.Answer.{answer, Ends}
 use Rattle.search.specs.Seek.{Sought, noLeaf, spent, fromWord}
 use Rattle.search.proofs.Machine.{state, on, runs, runs-answer}
-use Rattle.search.proofs.Seeking.{all-map, nodes-between, fromWord-all, ordered-nodes, ordered-fromWord, fromWord-fromWord, all-from, runs-none, runs-spent, runs-full, runs-found, sought-above, sought-below}
+use Rattle.search.proofs.Seeking.{All, all-map, nodes-between, fromWord-all, ordered-nodes, ordered-fromWord, fromWord-fromWord, all-from}
+use Rattle.search.proofs.Seeking.{runs-none, runs-spent, runs-full, runs-found, sought-above, sought-below}
 use Rattle.search.proofs.Visits.{small-words, placed-root, leaf-undecided}
 
 -- the search has m models listed and v nodes visited, and goes on with the nodes from x on
@@ -35,21 +36,27 @@ module _ (D : Dead) (P : List Clause) (A n : ℕ) (l₀ : List ℕ) where
   }
 
   module _ (x m v : ℕ) (l : List ℕ) (g : Searching D P A n l₀ x m v l) (few : n ≤ 12) (r v′ : ℕ) (s : Sought (isStableLeaf D P) A x (tree D n) v r v′) where
+    ends : (b : SearchAnswer) {a : SearchAnswer} → runs (isStableLeaf D P) A (fromWord x (tree D n)) (on m v l) ≡ state b l → a ≡ b → Ends D P n A l₀ a l
+    ends b e y = ended b l y (sym (sym (g .same) ∙ e))
+
+    small : All (λ u. u < 2 ^ 24) (fromWord x (tree D n))
+    small = small-words D x (2 * n) 0 (placed-root n few)
+
     pub turn-none : {a : SearchAnswer} → r ≡ noLeaf → a ≡ answer Complete m v′ → Ends D P n A l₀ a l
-    turn-none h y = ended (answer Complete m v′) l y (sym (sym (g .same) ∙ runs-none (isStableLeaf D P) A m l (fromWord x (tree D n)) v (small-words D x (2 * n) 0 (placed-root n few)) (sym (s .word) ∙ h) ∙ rw (← s .nodes)))
+    turn-none h = ends (answer Complete m v′) (runs-none (isStableLeaf D P) A m l (fromWord x (tree D n)) v small (sym (s .word) ∙ h) ∙ rw (← s .nodes))
 
     pub turn-spent : {a : SearchAnswer} → r ≡ spent → a ≡ answer Spent m v′ → Ends D P n A l₀ a l
-    turn-spent h y = ended (answer Spent m v′) l y (sym (sym (g .same) ∙ runs-spent (isStableLeaf D P) A m l (fromWord x (tree D n)) v (small-words D x (2 * n) 0 (placed-root n few)) (sym (s .word) ∙ h) ∙ rw (← s .nodes)))
+    turn-spent h = ends (answer Spent m v′) (runs-spent (isStableLeaf D P) A m l (fromWord x (tree D n)) v small (sym (s .word) ∙ h) ∙ rw (← s .nodes))
 
     module _ (p : r ≡ noLeaf → ⊥) (q : r ≡ spent → ⊥) where
       pub turn-full : {a : SearchAnswer} → length l ≤ m → a ≡ answer Full m v′ → Ends D P n A l₀ a l
-      turn-full h y = ended (answer Full m v′) l y (sym (sym (g .same) ∙ runs-full (isStableLeaf D P) A m l (fromWord x (tree D n)) v (λ e. p (s .word ∙ e)) (λ e. q (s .word ∙ e)) h ∙ rw (← s .nodes)))
+      turn-full h = ends (answer Full m v′) (runs-full (isStableLeaf D P) A m l (fromWord x (tree D n)) v (λ e. p (s .word ∙ e)) (λ e. q (s .word ∙ e)) h ∙ rw (← s .nodes))
 
       pub turn-above : x ≤ r
       turn-above = rw (s .word) (sought-above (isStableLeaf D P) A m l (fromWord x (tree D n)) x v (all-from x (tree D n)) (λ e. p (s .word ∙ e)) (λ e. q (s .word ∙ e)))
 
       pub turn-below : r < 2 ^ 24
-      turn-below = rw (s .word) (sought-below (isStableLeaf D P) A m l (fromWord x (tree D n)) (2 ^ 24) v (small-words D x (2 * n) 0 (placed-root n few)) (λ e. p (s .word ∙ e)) (λ e. q (s .word ∙ e)))
+      turn-below = rw (s .word) (sought-below (isStableLeaf D P) A m l (fromWord x (tree D n)) (2 ^ 24) v small (λ e. p (s .word ∙ e)) (λ e. q (s .word ∙ e)))
 
       pub turn-falls : 2 ^ 24 - (r + 1) < 2 ^ 24 - x
       turn-falls = omega (arith, turn-above, turn-below)
@@ -59,6 +66,7 @@ module _ (D : Dead) (P : List Clause) (A n : ℕ) (l₀ : List ℕ) where
         room = length-set l m r ∙ g .room;
         within = omega (arith, turn-below);
         same = sym (sym (g .same)
-            ∙ runs-found (isStableLeaf D P) A m l (fromWord x (tree D n)) v (leaf-undecided D P) (ordered-fromWord x (tree D n) (ordered-nodes D (2 * n) 0)) (λ e. p (s .word ∙ e)) (λ e. q (s .word ∙ e)) h
+            ∙ runs-found (isStableLeaf D P) A m l (fromWord x (tree D n)) v (leaf-undecided D P) (ordered-fromWord x (tree D n) (ordered-nodes D (2 * n) 0))
+            (λ e. p (s .word ∙ e)) (λ e. q (s .word ∙ e)) h
             ∙ rw (← s .word, ← s .nodes, fromWord-fromWord x (r + 1) (tree D n) (omega (arith, turn-above))));
       }

@@ -12,10 +12,10 @@ use lib.Pow.{pow-pos, pow-mono}
 use borrow.Author.Tests.{lt-ltb, le-ltb, eq-eqb, ne-eqb, eqb-true, not-true, not-false}
 use Rattle.sets.proofs.Tests.{dec, both-true}
 use Rattle.program.specs.Clauses.{Clause}
-use Rattle.semantics.specs.Interpretations.{isStable}
+use Rattle.semantics.specs.Interpretations.{reduct, isModel, isStable}
 use Rattle.search.specs.Tree.{Node, node, Dead, dead, nodes, isStableLeaf}
-use Rattle.search.specs.Seek.{stops, counted, Ticked, Sought, Placed, noLeaf, spent, fromWord, sought, after}
-use Rattle.search.proofs.Nodes.{low-out, low-in}
+use Rattle.search.specs.Seek.{stops, counted, Ticked, Sought, Placed, AtNode, noLeaf, spent, fromWord, sought, after}
+use Rattle.search.proofs.Nodes.{low-out, low-in, live-leaf}
 use Rattle.search.proofs.Seeking.{All, all-map, all-fromWord, nodes-between, fromWord-append, fromWord-none, sought-append, sought-first}
 
 -- ---- the children of a node
@@ -40,12 +40,23 @@ placed-in k w v p h e = rw e (record {
   fits = omega (arith, p .fits, halved k h);
 })
 
--- the word with every undecided bit, of the first child and of the second
-pub reach-out : (k w v bit reach : ℕ) → Placed k w → (k ≡ 0 → ⊥) → bit ≡ 2 ^ (k - 1) → reach ≡ w + (2 ^ k - 1) → v ≡ reach - bit → v ≡ w + (2 ^ (k - 1) - 1)
-reach-out k w v bit reach p h e q r = omega (arith, halved k h, pow-pos (k - 1))
+-- what is handed to the first child, and to the second
+module _ (count k w reach bit : ℕ) (h : AtNode count k w reach) (inner : k ≡ 0 → ⊥) (e : bit ≡ 2 ^ (k - 1)) where
+  pub bit-fits : bit ≤ reach
+  bit-fits = omega (arith, h .reaches, halved k inner, pow-pos (k - 1))
 
-pub reach-in : (k w bit reach : ℕ) → (k ≡ 0 → ⊥) → bit ≡ 2 ^ (k - 1) → reach ≡ w + (2 ^ k - 1) → reach ≡ w + bit + (2 ^ (k - 1) - 1)
-reach-in k w bit reach h e q = omega (arith, halved k h, pow-pos (k - 1))
+  pub at-first : AtNode count (k - 1) w (reach - bit)
+  at-first = record { short = h .short; placed = placed-out k w (h .placed) inner; reaches = omega (arith, h .reaches, halved k inner, pow-pos (k - 1)) }
+
+  pub at-second : AtNode count (k - 1) (w + bit) reach
+  at-second = record {
+    short = h .short;
+    placed = placed-in k w (w + bit) (h .placed) inner (ap (λ x. w + x) e);
+    reaches = omega (arith, h .reaches, halved k inner, pow-pos (k - 1));
+  }
+
+  pub word-fits : w + bit < 2 ^ 32
+  word-fits = omega (arith, h .placed .fits, halved k inner, pow-pos (k - 1))
 
 pub placed-root : (n : ℕ) → n ≤ 12 → Placed (2 * n) 0
 placed-root n h = record {
@@ -53,6 +64,9 @@ placed-root n h = record {
   low = zero-mod (2 ^ (2 * n));
   fits = omega (arith, pow-mono {i = 2 * n} {j = 24} (omega arith));
 }
+
+pub at-root : (count n reach : ℕ) → count ≤ 64 → n ≤ 12 → reach ≡ 0 + (2 ^ (2 * n) - 1) → AtNode count (2 * n) 0 reach
+at-root count n reach short few e = record { short = short; placed = placed-root n few; reaches = e }
 
 -- ---- the tree below a node
 unfoldable below : Dead → ℕ → ℕ → List Node
@@ -87,8 +101,8 @@ leaf-is : (D : Dead) (P : List Clause) (k w : ℕ) → k ≡ 0 → D k w ≡ fal
 unfolding isStableLeaf
 leaf-is D P k w z d = rw (d, eq-eqb k 0 z)
 
-pub leaf-live : (P : List Clause) (k w : ℕ) {r : Bool} → r ≡ dead P k w → r ≡ false → k ≡ 0 → dead P 0 w ≡ false
-leaf-live P k w e t z = rw z at (sym e) ∙ t
+pub leaf-live : (P : List Clause) (k w : ℕ) {r : Bool} → r ≡ dead P k w → r ≡ false → k ≡ 0 → isModel (reduct P w) w ≡ true
+leaf-live P k w e t z = live-leaf P w ∙ ap not (rw z at (sym e) ∙ t)
 
 pub leaf-undecided : (D : Dead) (P : List Clause) (x : Node) → isStableLeaf D P x ≡ true → x .undecided ≡ 0
 unfolding isStableLeaf
@@ -111,60 +125,60 @@ module _ (A x w v : ℕ) where
 pub small-words : (D : Dead) (x k w : ℕ) → Placed k w → All (λ u. u < 2 ^ 24) (fromWord x (nodes D k w))
 small-words D x k w p = all-fromWord _ x (nodes D k w) (all-map _ _ (λ u h. omega (arith, p .fits)) (nodes D k w) (nodes-between D k w))
 
+-- what is found among xs after v nodes is what is found among ys after v′
+record Passes (hit : Node → Bool) (A : ℕ) (xs : List Node) (v : ℕ) (ys : List Node) (v′ : ℕ) : Type 0 where
+  word : sought hit A xs v ≡ sought hit A ys v′
+  nodes : after hit A xs v ≡ after hit A ys v′
+
 module _ (D : Dead) (P : List Clause) (A x k w v : ℕ) where
-  pub seek-passed : {reach : ℕ} → reach ≡ w + (2 ^ k - 1) → reach < x → Sought (isStableLeaf D P) A x (nodes D k w) v noLeaf v
+  pub seek-passed : {count reach : ℕ} → AtNode count k w reach → reach < x → Sought (isStableLeaf D P) A x (nodes D k w) v noLeaf v
   unfolding sought after
-  seek-passed e h =
-      let z : fromWord x (nodes D k w) ≡ [] = fromWord-none x (nodes D k w) (all-map _ _ (λ u m. omega (arith, pow-pos k)) (nodes D k w) (nodes-between D k w)) in
+  seek-passed at h =
+      let z : fromWord x (nodes D k w) ≡ [] = fromWord-none x (nodes D k w) (all-map _ _ (λ u m. omega (arith, at .reaches, pow-pos k)) (nodes D k w) (nodes-between D k w)) in
       record { word = rw z; nodes = rw z }
 
   -- the node itself, with ys below it
   module _ (s : Bool) (v′ : ℕ) (t : Ticked A x w v s v′) (ys : List Node) where
-    node-spent : s ≡ true → (spent ≡ sought (isStableLeaf D P) A (fromWord x (node k w ∷ ys)) v) × (v′ ≡ after (isStableLeaf D P) A (fromWord x (node k w ∷ ys)) v)
+    node-spent : s ≡ true → Sought (isStableLeaf D P) A x (node k w ∷ ys) v spent v′
     unfolding sought after fromWord stops counted
     node-spent e =
         let b = both-true (not (ltb w x)) (not (ltb v A)) (sym (t .stopped) ∙ e) in
         let p = not-true (ltb w x) (b .0) in
         let q = not-true (ltb v A) (b .1) in
-        (rw (p, q), t .nodes ∙ rw (p, q))
+        record { word = rw (p, q); nodes = t .nodes ∙ rw (p, q) }
 
-    node-passed : s ≡ false → isStableLeaf D P (node k w) ≡ false
-        → (sought (isStableLeaf D P) A (fromWord x (node k w ∷ ys)) v ≡ sought (isStableLeaf D P) A (fromWord x ys) v′) × (after (isStableLeaf D P) A (fromWord x (node k w ∷ ys)) v ≡ after (isStableLeaf D P) A (fromWord x ys) v′)
+    node-passed : s ≡ false → isStableLeaf D P (node k w) ≡ false → Passes (isStableLeaf D P) A (fromWord x (node k w ∷ ys)) v (fromWord x ys) v′
     unfolding sought after fromWord stops counted
     node-passed e m = ⊎-elim
-        (λ (p : ltb w x ≡ true). let q : v′ ≡ v = t .nodes ∙ rw p in rw (p, q) (refl, refl))
+        (λ (p : ltb w x ≡ true). let q : v′ ≡ v = t .nodes ∙ rw p in record { word = rw (p, q); nodes = rw (p, q) })
         (λ (p : ltb w x ≡ false).
         let c : ltb v A ≡ true = not-false (ltb v A) (rw p at (sym (t .stopped)) ∙ e) in
         let q : v′ ≡ v + 1 = t .nodes ∙ rw (p, c) in
-        rw (p, c, m, q) (refl, refl))
+        record { word = rw (p, c, m, q); nodes = rw (p, c, m, q) })
         (dec (ltb w x))
 
-    node-hit : s ≡ false → isStableLeaf D P (node k w) ≡ true → x ≤ w → (w ≡ sought (isStableLeaf D P) A (fromWord x (node k w ∷ ys)) v) × (v′ ≡ after (isStableLeaf D P) A (fromWord x (node k w ∷ ys)) v)
+    node-hit : s ≡ false → isStableLeaf D P (node k w) ≡ true → x ≤ w → Sought (isStableLeaf D P) A x (node k w ∷ ys) v w v′
     unfolding sought after fromWord stops counted
     node-hit e m h =
         let p = le-ltb w x h in
         let c : ltb v A ≡ true = not-false (ltb v A) (rw p at (sym (t .stopped)) ∙ e) in
         let q : v′ ≡ v + 1 = t .nodes ∙ rw (p, c) in
-        rw (p, c, m, q) (refl, refl)
+        record { word = rw (p, c, m); nodes = q ∙ rw (p, c, m) }
 
   -- ---- the ways to leave a node, with v′ nodes visited when its test is done
   module _ (s : Bool) (v′ : ℕ) (t : Ticked A x w v s v′) where
-    here : (r : ℕ) → (r ≡ sought (isStableLeaf D P) A (fromWord x (node k w ∷ below D k w)) v) × (v′ ≡ after (isStableLeaf D P) A (fromWord x (node k w ∷ below D k w)) v) → Sought (isStableLeaf D P) A x (nodes D k w) v r v′
-    here r q = record {
-      word = q .0 ∙ ap (λ ns. sought (isStableLeaf D P) A (fromWord x ns) v) (sym (nodes-below D k w));
-      nodes = q .1 ∙ ap (λ ns. after (isStableLeaf D P) A (fromWord x ns) v) (sym (nodes-below D k w));
-    }
+    here : (r : ℕ) → Sought (isStableLeaf D P) A x (node k w ∷ below D k w) v r v′ → Sought (isStableLeaf D P) A x (nodes D k w) v r v′
+    here r q = rw (nodes-below D k w) q
 
     pub seek-spent : s ≡ true → Sought (isStableLeaf D P) A x (nodes D k w) v spent v′
     seek-spent e = here spent (node-spent s v′ t (below D k w) e)
 
-    past : s ≡ false → isStableLeaf D P (node k w) ≡ false
-        → (sought (isStableLeaf D P) A (fromWord x (nodes D k w)) v ≡ sought (isStableLeaf D P) A (fromWord x (below D k w)) v′) × (after (isStableLeaf D P) A (fromWord x (nodes D k w)) v ≡ after (isStableLeaf D P) A (fromWord x (below D k w)) v′)
+    past : s ≡ false → isStableLeaf D P (node k w) ≡ false → Passes (isStableLeaf D P) A (fromWord x (nodes D k w)) v (fromWord x (below D k w)) v′
     past e m = rw (nodes-below D k w) (node-passed s v′ t (below D k w) e m)
 
     ends-here : s ≡ false → isStableLeaf D P (node k w) ≡ false → below D k w ≡ [] → Sought (isStableLeaf D P) A x (nodes D k w) v noLeaf v′
     unfolding sought after fromWord
-    ends-here e m z = let r = past e m in record { word = sym (r .0 ∙ rw z); nodes = sym (r .1 ∙ rw z) }
+    ends-here e m z = let r = past e m in record { word = sym (r .word ∙ rw z); nodes = sym (r .nodes ∙ rw z) }
 
     pub seek-dead : {d : Bool} → s ≡ false → d ≡ D k w → d ≡ true → Sought (isStableLeaf D P) A x (nodes D k w) v noLeaf v′
     seek-dead e q h = let d = sym q ∙ h in ends-here e (dead-no-leaf D P k w d) (below-dead D k w d)
@@ -173,28 +187,31 @@ module _ (D : Dead) (P : List Clause) (A x k w v : ℕ) where
     unfolding below
     seek-unstable e p m z q h = ends-here e (leaf-is D P k w z (sym p ∙ m) ∙ sym q ∙ h) (rw z)
 
-    pub seek-leaf : {r d : Bool} {reach : ℕ} → s ≡ false → d ≡ D k w → d ≡ false → k ≡ 0 → r ≡ isStable P w → r ≡ true → reach ≡ w + (2 ^ k - 1) → x ≤ reach → Sought (isStableLeaf D P) A x (nodes D k w) v w v′
-    seek-leaf e i j z q h m y =
-        let u : x ≤ w = omega (arith, ap (λ j. 2 ^ j) z) in
+    pub seek-leaf : {r d : Bool} {count reach : ℕ} → AtNode count k w reach → x ≤ reach → s ≡ false → d ≡ D k w → d ≡ false → k ≡ 0 → r ≡ isStable P w → r ≡ true
+        → Sought (isStableLeaf D P) A x (nodes D k w) v w v′
+    seek-leaf at y e i j z q h =
+        let u : x ≤ w = omega (arith, at .reaches, ap (λ j. 2 ^ j) z) in
         here w (node-hit s v′ t (below D k w) e (leaf-is D P k w z (sym i ∙ j) ∙ sym q ∙ h) u)
 
     split : s ≡ false → (k ≡ 0 → ⊥) → D k w ≡ false
-        → (sought (isStableLeaf D P) A (fromWord x (nodes D k w)) v ≡ sought (isStableLeaf D P) A (fromWord x (nodes D (k - 1) w) ++ fromWord x (nodes D (k - 1) (w + 2 ^ (k - 1)))) v′)
-        × (after (isStableLeaf D P) A (fromWord x (nodes D k w)) v ≡ after (isStableLeaf D P) A (fromWord x (nodes D (k - 1) w) ++ fromWord x (nodes D (k - 1) (w + 2 ^ (k - 1)))) v′)
+        → Passes (isStableLeaf D P) A (fromWord x (nodes D k w)) v (fromWord x (nodes D (k - 1) w) ++ fromWord x (nodes D (k - 1) (w + 2 ^ (k - 1)))) v′
     split e z d = rw (← fromWord-append x (nodes D (k - 1) w) (nodes D (k - 1) (w + 2 ^ (k - 1))), ← below-live D k w z d) (past e (inner-no-leaf D P k w z))
 
-    module _ (r v₁ : ℕ) (e : s ≡ false) (z : k ≡ 0 → ⊥) (d : D k w ≡ false) (first : Sought (isStableLeaf D P) A x (nodes D (k - 1) w) v′ r v₁) where
+    module _ (r v₁ : ℕ) {d : Bool} (e : s ≡ false) (f : d ≡ D k w) (live : d ≡ false) (z : k ≡ 0 → ⊥)
+        (first : Sought (isStableLeaf D P) A x (nodes D (k - 1) w) v′ r v₁) where
       pub seek-first : (r ≡ noLeaf → ⊥) → Sought (isStableLeaf D P) A x (nodes D k w) v r v₁
       seek-first h =
-          let p = split e z d in
-          let f = sought-first (isStableLeaf D P) A (fromWord x (nodes D (k - 1) w)) (fromWord x (nodes D (k - 1) (w + 2 ^ (k - 1)))) v′ (λ q. h (first .word ∙ q)) in
-          record { word = first .word ∙ sym (p .0 ∙ f .0); nodes = first .nodes ∙ sym (p .1 ∙ f .1) }
+          let p = split e z (sym f ∙ live) in
+          let q = sought-first (isStableLeaf D P) A (fromWord x (nodes D (k - 1) w)) (fromWord x (nodes D (k - 1) (w + 2 ^ (k - 1)))) v′ (λ q. h (first .word ∙ q)) in
+          record { word = first .word ∙ sym (p .word ∙ q .0); nodes = first .nodes ∙ sym (p .nodes ∙ q .1) }
 
-      pub seek-second : (c r₂ v₂ : ℕ) → Placed k w → r ≡ noLeaf → c ≡ w + 2 ^ (k - 1) → Sought (isStableLeaf D P) A x (nodes D (k - 1) c) v₁ r₂ v₂ → Sought (isStableLeaf D P) A x (nodes D k w) v r₂ v₂
-      seek-second c r₂ v₂ pl h q second =
-          let p = split e z d in
-          let f = sought-append (isStableLeaf D P) A (fromWord x (nodes D (k - 1) w)) (fromWord x (nodes D (k - 1) (w + 2 ^ (k - 1)))) v′ (small-words D x (k - 1) w (placed-out k w pl z)) (sym (first .word) ∙ h) in
+      pub seek-second : (count reach bit r₂ v₂ : ℕ) → AtNode count k w reach → r ≡ noLeaf → bit ≡ 2 ^ (k - 1)
+          → Sought (isStableLeaf D P) A x (nodes D (k - 1) (w + bit)) v₁ r₂ v₂ → Sought (isStableLeaf D P) A x (nodes D k w) v r₂ v₂
+      seek-second count reach bit r₂ v₂ at h b second =
+          let p = split e z (sym f ∙ live) in
+          let q = sought-append (isStableLeaf D P) A (fromWord x (nodes D (k - 1) w)) (fromWord x (nodes D (k - 1) (w + 2 ^ (k - 1)))) v′
+          (small-words D x (k - 1) w (placed-out k w (at .placed) z)) (sym (first .word) ∙ h) in
           record {
-            word = second .word ∙ rw (q, first .nodes) (sym (p .0 ∙ f .0));
-            nodes = second .nodes ∙ rw (q, first .nodes) (sym (p .1 ∙ f .1));
+            word = second .word ∙ rw (b, first .nodes) (sym (p .word ∙ q .0));
+            nodes = second .nodes ∙ rw (b, first .nodes) (sym (p .nodes ∙ q .1));
           }

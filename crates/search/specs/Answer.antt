@@ -19,7 +19,7 @@ use Rattle.search.specs.Tree.{Node, Dead, dead, tree, isStableLeaf, hits
 abbrev pub answer : Outcome → ℕ → ℕ → SearchAnswer
 answer o n v = record { outcome = o; written = n; visited = v }
 
--- ---- a run over the nodes xs, with the test `hit` of p-stable leaves, the allowance A and a list of L places
+-- ---- a run over the nodes xs, with the test `hit` of p-stable leaves, the node limit A (document 01's allowance) and a list of L places
 module _ (hit : Node → Bool) (xs : List Node) where
   -- more than L of the first m nodes are p-stable: "one is p-stable and the list is full already"
   unfoldable pub overfull : ℕ → ℕ → Bool
@@ -65,7 +65,7 @@ refusals p = (9, not (valid p)) ∷ []
 unfoldable pub refusal : Program → ℕ
 refusal p = lowest (refusals p)
 
--- the answer for every table, every allowance and every list that is lent; where refused, "counts are 0"
+-- the answer for every table, every node limit and every list that is lent; where refused, "counts are 0"
 unfoldable pub answerOf : Program → ℕ → List ℕ → SearchAnswer
 answerOf p A l = cond (eqb (refusal p) 0) (runAnswer (leafOf p) (nodesOf p) A (length l)) (answer (Refused (refusal p)) 0 0)
 

@@ -2,11 +2,12 @@
 use mathlib.Core.Path.{_≡_}
 use mathlib.Core.Bool.{Bool, cond, not, _&&_}
 use mathlib.Core.List.{List, [], _∷_}
-use Prim.Native.Nat.{ℕ, _+_, _%_, _^_, _≤_}
+use Prim.Native.Nat.{ℕ, _+_, _-_, _%_, _^_, _≤_}
 use lib.Dec.{ltb}
-use Rattle.search.specs.Tree.{Node}
+use Rattle.program.specs.Clauses.{Clause}
+use Rattle.search.specs.Tree.{Node, dead, nodes, isStableLeaf}
 
--- what is answered where no node is a hit, and where the allowance ended before one
+-- what is answered where no node is a hit, and where the node limit ended before one
 abbrev pub noLeaf : ℕ
 noLeaf = 0xffff_ffff
 
@@ -18,7 +19,7 @@ unfoldable pub fromWord : ℕ → List Node → List Node
 fromWord x [] = []
 fromWord x (y ∷ ys) = let r = fromWord x ys in cond (ltb (y .word) x) r (y ∷ r)
 
--- ---- the first hit among xs, with v nodes visited before and the allowance A: its word, and the nodes visited up to it
+-- ---- the first hit among xs, with v nodes visited before and the node limit A: its word, and the nodes visited up to it
 unfoldable pub sought : (Node → Bool) → ℕ → List Node → ℕ → ℕ
 sought hit A [] v = noLeaf
 sought hit A (x ∷ xs) v = let r = sought hit A xs (v + 1) in cond (ltb v A) (cond (hit x) (x .word) r) spent
@@ -31,6 +32,10 @@ after hit A (x ∷ xs) v = let r = after hit A xs (v + 1) in cond (ltb v A) (con
 pub record Sought (hit : Node → Bool) (A x : ℕ) (xs : List Node) (v r v′ : ℕ) : Type 0 where
   pub word : r ≡ sought hit A (fromWord x xs) v
   pub nodes : v′ ≡ after hit A (fromWord x xs) v
+
+-- the same of the tree of clauses P below the node (k, w), and its p-stable leaves
+abbrev pub SoughtBelow : List Clause → (k w A x v r v′ : ℕ) → Type 0
+SoughtBelow P k w A x v r v′ = Sought (isStableLeaf (dead P) P) A x (nodes (dead P) k w) v r v′
 
 -- ---- a node with the word w is counted where it was not visited before
 unfoldable pub stops : ℕ → ℕ → ℕ → ℕ → Bool
@@ -48,3 +53,9 @@ pub record Placed (k w : ℕ) : Type 0 where
   pub few : k ≤ 24
   pub low : w % 2 ^ k ≡ 0
   pub fits : w + 2 ^ k ≤ 2 ^ 24
+
+-- what a visit of the node (k, w) is handed: at most 64 clauses, and the word with every undecided bit
+pub record AtNode (count k w reach : ℕ) : Type 0 where
+  pub short : count ≤ 64
+  pub placed : Placed k w
+  pub reaches : reach ≡ w + (2 ^ k - 1)

@@ -2,6 +2,7 @@
 use mathlib.Core.Path.{_≡_, refl, sym, ap, _∙_, subst, fun-ext}
 use mathlib.Core.Logic.{_↔_, _⊎_, ⊎-elim}
 use mathlib.Core.Bool.{Bool, true, false, cond, _&&_, _||_}
+use mathlib.Core.Bool as tests
 use Prim.Native.Nat.{ℕ, zero, suc, _+_, _-_, _*_, _/_, _%_, _^_, _≤_, _<_, min, max}
 use native.Mathlib.Nat.{eq-zero-or-pos, pow-suc, div-one}
 use native.Mathlib.Numerals.{one-add}
@@ -176,6 +177,11 @@ digit-div (suc k) w =
 -- ---- the bits of a word and of its parts
 pub bit-ext : (a b : ℕ) → ((i : ℕ) → bit a i ≡ bit b i) → a ≡ b
 bit-ext a b h = bits-ext a b (λ i t. subst T (h i) t) (λ i t. subst T (sym (h i)) t)
+
+pub or-assoc : (a b c : ℕ) → bitOr (bitOr a b) c ≡ bitOr a (bitOr b c)
+or-assoc a b c =
+    bit-ext (bitOr (bitOr a b) c) (bitOr a (bitOr b c))
+    (λ i. rw (bit-or (bitOr a b) c i, bit-or a b i, bit-or a (bitOr b c) i, bit-or b c i) (tests.or-assoc (bit a i) (bit b i) (bit c i)))
 
 pub inside→⊑ : (a b : ℕ) → T (inside a b) → bit a ⊑ bit b
 inside→⊑ a b t = inside-bits a b .0 (eqb→eq (bitAnd a b) a t)

@@ -6,3 +6,4 @@ pub mod Least
 pub mod Digits
 pub mod Subsets
 pub mod Branches
+pub mod Highest

@@ -12,7 +12,7 @@ use Rattle.sets.specs.Lists.{every, sift, tabulate}
 use Rattle.sets.specs.Words.{Inside, Next, inside, apart}
 use Rattle.sets.specs.Least.{least}
 use Rattle.sets.proofs.Least.{Searched, miss, leap, least-suc}
-use Rattle.program.specs.Clauses.{Clause, clauseOf, clauseAt, noClause}
+use Rattle.program.specs.Clauses.{Clause, clauseOf, noClause}
 use Rattle.sets.proofs.Lists.{length-tabulate, getD-tabulate}
 use Rattle.stable.specs.declared.Checked.the-variants.{Violated, Smaller, Stable}
 use Rattle.semantics.specs.Interpretations.{satisfies, reduct, isModel, violates, violatedAt, smaller, leastSmaller}
@@ -72,44 +72,45 @@ pub first-violated-is : (P : List Clause) (I : ℕ) → firstViolated P I ≡ le
 unfolding firstViolated violatedAt
 first-violated-is P I = ap (λ (f : ℕ → Bool). least f (length P)) (λ i k. sym (violates-self I (getD P k noClause)) i)
 
--- ---- the loops, over the clauses in three columns
-module _ (hs bs ns : List ℕ) (n I : ℕ) where
-  pub tested : (w k : ℕ) {r b : Bool} → k < n → r ≡ violates I w (clauseAt hs bs ns k) → r ≡ b → violatedAt (tabulate (clauseAt hs bs ns) n) I w k ≡ b
+-- ---- the loops, over any layout of n clauses
+module _ (at : ℕ → Clause) (n I : ℕ) where
+  pub tested : (w k : ℕ) {r b : Bool} → k < n → r ≡ violates I w (at k) → r ≡ b → violatedAt (tabulate at n) I w k ≡ b
   unfolding violatedAt
-  tested w k h e t = ap (violates I w) (getD-tabulate (clauseAt hs bs ns) n k noClause h) ∙ sym e ∙ t
+  tested w k h e t = ap (violates I w) (getD-tabulate at n k noClause h) ∙ sym e ∙ t
 
-  model-rows : (w : ℕ) → eqb (least (violatedAt (tabulate (clauseAt hs bs ns) n) I w) n) n ≡ isModel (reduct (tabulate (clauseAt hs bs ns) n) I) w
-  model-rows w = rw (length-tabulate (clauseAt hs bs ns) n) at (model-least (tabulate (clauseAt hs bs ns) n) I w)
+  model-rows : (w : ℕ) → eqb (least (violatedAt (tabulate at n) I w) n) n ≡ isModel (reduct (tabulate at n) I) w
+  model-rows w = rw (length-tabulate at n) at (model-least (tabulate at n) I w)
 
-  pub smaller-is : (j r : ℕ) → Inside j I → r ≡ least (violatedAt (tabulate (clauseAt hs bs ns) n) I j) n → r ≡ n → smaller (reduct (tabulate (clauseAt hs bs ns) n) I) I j ≡ true
-  unfolding smaller
-  smaller-is j r h e q = rw (eq-eqb (bitAnd j I) j h, ← model-rows j, ← e) (eq-eqb r n q)
+  module _ (j r : ℕ) (h : Inside j I) (e : r ≡ least (violatedAt (tabulate at n) I j) n) where
+    pub smaller-is : r ≡ n → smaller (reduct (tabulate at n) I) I j ≡ true
+    unfolding smaller
+    smaller-is q = rw (eq-eqb (bitAnd j I) j h, ← model-rows j, ← e) (eq-eqb r n q)
 
-  pub smaller-not : (j r : ℕ) → Inside j I → r ≡ least (violatedAt (tabulate (clauseAt hs bs ns) n) I j) n → (r ≡ n → ⊥) → smaller (reduct (tabulate (clauseAt hs bs ns) n) I) I j ≡ false
-  unfolding smaller
-  smaller-not j r h e q = rw (eq-eqb (bitAnd j I) j h, ← model-rows j, ← e) (ne-eqb r n q)
+    pub smaller-not : (r ≡ n → ⊥) → smaller (reduct (tabulate at n) I) I j ≡ false
+    unfolding smaller
+    smaller-not q = rw (eq-eqb (bitAnd j I) j h, ← model-rows j, ← e) (ne-eqb r n q)
 
-  pub least-is : (j : ℕ) → j ≡ least (smaller (reduct (tabulate (clauseAt hs bs ns) n) I) I) I → j ≡ leastSmaller (tabulate (clauseAt hs bs ns) n) I
+  pub least-is : (j : ℕ) → j ≡ least (smaller (reduct (tabulate at n) I) I) I → j ≡ leastSmaller (tabulate at n) I
   unfolding leastSmaller
   least-is j e = e
 
-  -- ---- the answer
-  violated-first : (v : ℕ) → v ≡ least (violatedAt (tabulate (clauseAt hs bs ns) n) I I) n → v ≡ firstViolated (tabulate (clauseAt hs bs ns) n) I
-  violated-first v e = e ∙ ap (least (violatedAt (tabulate (clauseAt hs bs ns) n) I I)) (sym (length-tabulate (clauseAt hs bs ns) n)) ∙ sym (first-violated-is (tabulate (clauseAt hs bs ns) n) I)
+  -- ---- the answer, by the way that the check is left
+  module _ (v : ℕ) (e : v ≡ least (violatedAt (tabulate at n) I I) n) where
+    violated-first : v ≡ firstViolated (tabulate at n) I
+    violated-first = e ∙ ap (least (violatedAt (tabulate at n) I I)) (sym (length-tabulate at n)) ∙ sym (first-violated-is (tabulate at n) I)
 
-  pub is-violated : (v : ℕ) → v ≡ least (violatedAt (tabulate (clauseAt hs bs ns) n) I I) n → v < n → Violated v ≡ verdict (tabulate (clauseAt hs bs ns) n) (tabulate (clauseAt hs bs ns) n) I
-  unfolding verdict
-  is-violated v e h = rw (← violated-first v e, length-tabulate (clauseAt hs bs ns) n, lt-ltb v n h)
+    pub is-violated : v < n → Violated v ≡ verdict (tabulate at n) (tabulate at n) I
+    unfolding verdict
+    is-violated h = rw (← violated-first, length-tabulate at n, lt-ltb v n h)
 
-  pub is-smaller : (v j : ℕ) → v ≡ least (violatedAt (tabulate (clauseAt hs bs ns) n) I I) n → n ≤ v → j ≡ leastSmaller (tabulate (clauseAt hs bs ns) n) I → j < I
-      → Smaller j ≡ verdict (tabulate (clauseAt hs bs ns) n) (tabulate (clauseAt hs bs ns) n) I
-  unfolding verdict
-  is-smaller v j e h f l = rw (← violated-first v e, length-tabulate (clauseAt hs bs ns) n, le-ltb v n h, ← f, lt-ltb j I l)
+    module _ (j : ℕ) (h : n ≤ v) (f : j ≡ leastSmaller (tabulate at n) I) where
+      pub is-smaller : j < I → Smaller j ≡ verdict (tabulate at n) (tabulate at n) I
+      unfolding verdict
+      is-smaller l = rw (← violated-first, length-tabulate at n, le-ltb v n h, ← f, lt-ltb j I l)
 
-  pub is-stable : (v j : ℕ) → v ≡ least (violatedAt (tabulate (clauseAt hs bs ns) n) I I) n → n ≤ v → j ≡ leastSmaller (tabulate (clauseAt hs bs ns) n) I → I ≤ j
-      → Stable ≡ verdict (tabulate (clauseAt hs bs ns) n) (tabulate (clauseAt hs bs ns) n) I
-  unfolding verdict
-  is-stable v j e h f l = rw (← violated-first v e, length-tabulate (clauseAt hs bs ns) n, le-ltb v n h, ← f, le-ltb j I l)
+      pub is-stable : I ≤ j → Stable ≡ verdict (tabulate at n) (tabulate at n) I
+      unfolding verdict
+      is-stable l = rw (← violated-first, length-tabulate at n, le-ltb v n h, ← f, le-ltb j I l)
 
 -- a turn of the walk: the word j fails the test, and the next subset is m
 pub walk-on : (R : List Clause) (I j m : ℕ) → Searched (smaller R I) I j → j < I → smaller R I j ≡ false → Next I j m → Searched (smaller R I) I m

@@ -26,9 +26,9 @@ pub fn violates_clause(head: u32, body: u32, naf: u32, by: u32, w: u32) -> bool
 
 // The least number of a clause that the reduct by `by` keeps and `w` violates; `count` where there is none.
 fn first_violated<'a>(
-    heads: &'a [u32; 64],
-    bodies: &'a [u32; 64],
-    nafs: &'a [u32; 64],
+    heads: &'a [u32; program::MOST_CLAUSES],
+    bodies: &'a [u32; program::MOST_CLAUSES],
+    nafs: &'a [u32; program::MOST_CLAUSES],
     count: usize,
     by: u32,
     w: u32,
@@ -56,9 +56,9 @@ fn next_subset(word: u32, j: u32) -> u32
 
 // The least proper subset of `candidate` that satisfies the reduct by it; `candidate` where there is none.
 fn least_smaller<'a>(
-    heads: &'a [u32; 64],
-    bodies: &'a [u32; 64],
-    nafs: &'a [u32; 64],
+    heads: &'a [u32; program::MOST_CLAUSES],
+    bodies: &'a [u32; program::MOST_CLAUSES],
+    nafs: &'a [u32; program::MOST_CLAUSES],
     count: usize,
     candidate: u32,
 ) -> u32
@@ -76,9 +76,9 @@ fn least_smaller<'a>(
 }
 
 fn check_clauses<'a>(
-    heads: &'a [u32; 64],
-    bodies: &'a [u32; 64],
-    nafs: &'a [u32; 64],
+    heads: &'a [u32; program::MOST_CLAUSES],
+    bodies: &'a [u32; program::MOST_CLAUSES],
+    nafs: &'a [u32; program::MOST_CLAUSES],
     count: usize,
     candidate: u32,
 ) -> Checked
@@ -100,7 +100,7 @@ fn check_clauses<'a>(
 pub fn check(p: Program, candidate: u32) -> Checked
     ensures { λ r. ⌜ Checks p candidate r ⌝ }
 {
-    if !program::is_valid(p) {
+    if !validity::is_valid(p) {
         return Checked::Refused(program::INVALID_PROGRAM);
     }
     let n = p.atom_count;

@@ -19,15 +19,12 @@ use Rattle.program.specs.declared.Program.{Program}
 use Rattle.program.specs.Values.{isWord, valueIn}
 use Rattle.program.specs.Refusals.{lowest}
 use Rattle.program.specs.Valid.{valid}
+use Rattle.program.proofs.Values.{value-lt}
 use Rattle.program.proofs.Validity.{valid-names}
 use Rattle.summary.specs.Summary.{occurs, bitIf, occurringIn, isSettled, shownAt, settledAt, refusal, refusedSummary, summaryWith, summaryOf}
 use Rattle.summary.specs.Meaning.{Occurs, AtMostOne, Means}
 
 -- ---- the test `occurs`
-value-lt : (w i : ℕ) → valueIn w i < 4
-unfolding valueIn
-value-lt w i = omega arith
-
 pub occurs-exactly : (v i : ℕ) (words : List ℕ) → (occurs v i words ≡ true) ↔ Occurs v i words
 unfolding occurs Occurs
 occurs-exactly v i words = (

@@ -11,8 +11,8 @@ use program::Verdict;
 // Bit v of `occurring[i]`: atom i takes the value v in some word.
 pub struct Summary {
     pub verdict: Verdict,
-    pub occurring: [u8; 12],
-    pub settled: [bool; 12],
+    pub occurring: [u8; program::MOST_ATOMS],
+    pub settled: [bool; program::MOST_ATOMS],
 }
 
 // Whether no word has a bit at 2n or above.
@@ -84,19 +84,19 @@ fn shown_at(words: &[u32], n: usize, i: usize) -> u8
     0
 }
 
-fn occurring_of(words: &[u32], n: usize) -> [u8; 12]
+fn occurring_of(words: &[u32], n: usize) -> [u8; program::MOST_ATOMS]
     ensures { λ r. ⌜ r ≡ tabulate (shownAt n (now (words .entry))) 12 ⌝ }
 {
-    let mut out = [0u8; 12];
+    let mut out = [0u8; program::MOST_ATOMS];
     let mut i: usize = 0;
-    while i < 12 {
+    while i < program::MOST_ATOMS {
         out[i] = shown_at(words, n, i);
         i += 1;
     }
     out
 }
 
-fn settled_at(shown: &[u8; 12], n: usize, i: usize) -> bool
+fn settled_at(shown: &[u8; program::MOST_ATOMS], n: usize, i: usize) -> bool
     requires { ⌜ i < 12 ⌝ }
     ensures { λ r. ⌜ r ≡ settledAt n (now (shown .entry)) i ⌝ }
 {
@@ -106,12 +106,12 @@ fn settled_at(shown: &[u8; 12], n: usize, i: usize) -> bool
     false
 }
 
-fn settled_of(shown: &[u8; 12], n: usize) -> [bool; 12]
+fn settled_of(shown: &[u8; program::MOST_ATOMS], n: usize) -> [bool; program::MOST_ATOMS]
     ensures { λ r. ⌜ r ≡ tabulate (settledAt n (now (shown .entry))) 12 ⌝ }
 {
-    let mut out = [false; 12];
+    let mut out = [false; program::MOST_ATOMS];
     let mut i: usize = 0;
-    while i < 12 {
+    while i < program::MOST_ATOMS {
         out[i] = settled_at(shown, n, i);
         i += 1;
     }
@@ -121,8 +121,8 @@ fn settled_of(shown: &[u8; 12], n: usize) -> [bool; 12]
 fn refused(number: u8) -> Summary
     ensures { λ r. ⌜ r ≡ refusedSummary number ⌝ }
 {
-    let occurring = [0u8; 12];
-    let settled = [false; 12];
+    let occurring = [0u8; program::MOST_ATOMS];
+    let settled = [false; program::MOST_ATOMS];
     Summary {
         verdict: Verdict::Refused(number),
         occurring: occurring,
@@ -134,7 +134,7 @@ fn refused(number: u8) -> Summary
 pub fn summarize(p: Program, words: &[u32]) -> Summary
     ensures { λ r. ⌜ r ≡ summaryOf p (now (words .entry)) ⌝ }
 {
-    if !program::is_valid(p) {
+    if !validity::is_valid(p) {
         return refused(program::INVALID_PROGRAM);
     }
     let n = p.atom_count;

@@ -9,7 +9,7 @@ use lib.ListN.{length, take, drop, length-map}
 use borrow.Author.Tests.{eq-eqb, ne-eqb, not-false, leb-true, ltb-false}
 use Rattle.sets.specs.Lists.{every}
 use Rattle.sets.proofs.Tests.{both-true}
-use Rattle.lists.specs.Bytes.{padded, distinct, pieces, ended, endOf, EndsAt, Counts}
+use Rattle.lists.specs.Bytes.{padded, distinct, pieces, ended, endOf, EndsAt, CountOf}
 use Rattle.lists.proofs.Pieces.{length-ended, end-le}
 use Rattle.program.specs.Names.{isName}
 use Rattle.program.specs.Refusals.{lowest}
@@ -98,7 +98,7 @@ module _ (b : List ℕ) (z : refusal b ≡ 0) where
     pub fit-lines : length (ended 10 (drop (e + 1) b)) ≤ 64
     fit-lines = omega (arith, fit b z .many, ap length (both-lines b e here q))
 
-    pub fit-few : (n : ℕ) → Counts 32 (take e b) n → n + 1 ≡ length (names b)
+    pub fit-few : (n : ℕ) → CountOf 32 (take e b) n → n + 1 ≡ length (names b)
     fit-few n c = names-count b e here q n c
 
     pub fit-whole : every (lineHolds (length (names b))) (ended 10 (drop (e + 1) b)) ≡ true
@@ -108,7 +108,7 @@ module _ (b : List ℕ) (z : refusal b ≡ 0) where
     fit-words k = ap (λ (l : List (List ℕ)). padded 64 (map (wordBy k) (map row l))) (sym (clause-lines-are b e here q))
 
   -- one line more than clauses
-  pub fit-count : (m : ℕ) → Counts 10 b m → m ≡ 1 + length (clauseLines b)
+  pub fit-count : (m : ℕ) → CountOf 10 b m → m ≡ 1 + length (clauseLines b)
   unfolding clauseLines
   fit-count m c = go (ended 10 b) (omega (arith, c .is, length-ended 10 b)) (ended-some (fit b z .line))
     where

@@ -10,7 +10,7 @@ use lib.ListN.{length, getD, take, drop}
 use borrow.Author.Tests.{eq-eqb, eqb-true, eqb-false, le-leb, not-false}
 use Rattle.sets.specs.Lists.{every, anyOf}
 use Rattle.sets.proofs.Tests.{dec, clash}
-use Rattle.lists.specs.Bytes.{distinct, pieces, ended, index, endOf, EndsAt, Counts}
+use Rattle.lists.specs.Bytes.{distinct, pieces, ended, index, endOf, EndsAt, CountOf}
 use Rattle.lists.proofs.Pieces.{line-step, length-ended, length-pieces}
 use Rattle.program.specs.Names.{isName}
 use Rattle.program.specs.Refusals.{lowest}
@@ -52,11 +52,11 @@ module _ (b : List ℕ) (e : ℕ) (h : HasLine b) (q : EndsAt b 10 0 e) where
   unfolding HasLine
   behind = omega (arith, q .is)
 
-  pub names-count : (n : ℕ) → Counts 32 (take e b) n → n + 1 ≡ length (names b)
+  pub names-count : (n : ℕ) → CountOf 32 (take e b) n → n + 1 ≡ length (names b)
   names-count n c = omega (arith, c .is, length-pieces 32 (take e b), ap length names-are)
 
 -- ---- one test for each refusal, on the parts of a text
-pub names-broken-is : (b : List ℕ) (e n : ℕ) (r : Bool) → HasLine b → EndsAt b 10 0 e → Counts 32 (take e b) n → r ≡ every isName (pieces 32 (take e b))
+pub names-broken-is : (b : List ℕ) (e n : ℕ) (r : Bool) → HasLine b → EndsAt b 10 0 e → CountOf 32 (take e b) n → r ≡ every isName (pieces 32 (take e b))
     → not (leb (n + 1) 12 && r) ≡ namesBroken b
 unfolding namesBroken
 names-broken-is b e n r h q c s =
@@ -67,13 +67,13 @@ pub names-equal-is : (b : List ℕ) (e : ℕ) (r : Bool) → HasLine b → EndsA
 unfolding namesEqual
 names-equal-is b e r h q s = ap not (s ∙ ap distinct (sym (names-are b e h q)))
 
-pub line-holds-is : (l : List ℕ) (n m : ℕ) (r : Bool) → Counts 32 l m → r ≡ every isValue (pieces 32 l) → eqb (m + 1) n && r ≡ lineHolds n l
+pub line-holds-is : (l : List ℕ) (n m : ℕ) (r : Bool) → CountOf 32 l m → r ≡ every isValue (pieces 32 l) → eqb (m + 1) n && r ≡ lineHolds n l
 unfolding lineHolds
 line-holds-is l n m r c s =
     let k : m + 1 ≡ length (pieces 32 l) = omega (arith, c .is, length-pieces 32 l) in
     ap₂ (λ (j : ℕ) (t : Bool). eqb j n && t) k s
 
-pub clause-broken-is : (b : List ℕ) (e n : ℕ) (r : Bool) → HasLine b → EndsAt b 10 0 e → Counts 32 (take e b) n
+pub clause-broken-is : (b : List ℕ) (e n : ℕ) (r : Bool) → HasLine b → EndsAt b 10 0 e → CountOf 32 (take e b) n
     → r ≡ every (lineHolds (n + 1)) (ended 10 (drop (e + 1) b)) → not r ≡ clauseBroken b
 unfolding clauseBroken
 clause-broken-is b e n r h q c s =
@@ -83,7 +83,7 @@ pub only-zeros-is : (b : List ℕ) (e : ℕ) (r : Bool) → HasLine b → EndsAt
 unfolding onlyZeros
 only-zeros-is b e r h q s = s ∙ ap (anyOf (λ l. every isZero (pieces 32 l))) (sym (clause-lines-are b e h q))
 
-pub many-lines-is : (b : List ℕ) (n : ℕ) → Counts 10 b n → ltb 65 n ≡ tooManyLines b
+pub many-lines-is : (b : List ℕ) (n : ℕ) → CountOf 10 b n → ltb 65 n ≡ tooManyLines b
 unfolding tooManyLines
 many-lines-is b n c = ap (ltb 65) (c .is ∙ sym (length-ended 10 b))
 

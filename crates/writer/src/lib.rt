@@ -235,7 +235,7 @@ fn clauses_length<'a>(
 pub fn write_program(p: Program, out: &mut [u8]) -> Written
     ensures { λ r. ⌜ Writes p (now (out .entry)) r (now (out .exit)) ⌝ }
 {
-    if !program::is_valid(p) {
+    if !validity::is_valid(p) {
         return Written::Refused(program::INVALID_PROGRAM);
     }
     let n = p.atom_count;

@@ -1,4 +1,4 @@
--- `decimal::decimal_length` meets its contract. Assumes nothing.
+-- `decimal::decimal_length` meets its contract: the length is that of the tens that are left, and one for each digit taken off. Assumes nothing.
 use Rattle.decimal.proofs.Reading.{Counting}
 use Rattle.decimal.proofs.Rules.{rules}
 use Rattle.decimal.proofs.decimal_length.Statement.{statement}

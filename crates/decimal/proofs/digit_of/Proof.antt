@@ -1,4 +1,4 @@
--- `decimal::digit_of` meets its contract. Assumes nothing.
+-- `decimal::digit_of` meets its contract: one law for each way to leave it: below "0", above "9", a digit. Assumes nothing.
 use Rattle.decimal.proofs.Rules.{rules}
 use Rattle.decimal.proofs.digit_of.Statement.{statement}
 use Rattle.decimal.proofs.digit_of.Tie as tie

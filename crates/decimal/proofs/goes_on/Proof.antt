@@ -1,4 +1,4 @@
--- `decimal::goes_on` meets its contract. Assumes nothing.
+-- `decimal::goes_on` meets its contract: above the bound by `over-bound`, else `goes` turns the quotient into the product that the definition has. Assumes nothing.
 use Rattle.decimal.proofs.Rules.{rules}
 use Rattle.decimal.proofs.goes_on.Statement.{statement}
 use Rattle.decimal.proofs.goes_on.Tie as tie

@@ -1,4 +1,4 @@
--- `lists::count_of` meets its contract. Assumes nothing.
+-- `lists::count_of` meets its contract: the count of what is passed and of what is left is the whole count. Assumes nothing.
 use Prim.Native.Nat.{_-_}
 use lib.ListN.{length}
 use Rattle.lists.proofs.Loops.{Counted, loops}
@@ -12,4 +12,5 @@ abbrev μ-loop : tie.MeasureT-loop
 μ-loop s c n₀ i₀ n i = length s - i
 
 pub count-of-spec : {M : Type 1} → statement M
-count-of-spec = tie.close (tie.spec Inv-loop μ-loop (λ c. search loops) (λ c. search loops) (λ c. search loops) (λ c. search loops) (λ c. search loops) (λ c. search loops) (λ c. search loops) (λ c. search loops))
+count-of-spec = tie.close (tie.spec Inv-loop μ-loop (λ c. search loops) (λ c. search loops) (λ c. search loops) (λ c. search loops) (λ c. search loops) (λ c. search loops)
+    (λ c. search loops) (λ c. search loops))

@@ -1,4 +1,4 @@
--- `lists::end_of` meets its contract. Assumes nothing.
+-- `lists::end_of` meets its contract: no byte between `at` and i is the one that is sought. Assumes nothing.
 use Prim.Native.Nat.{_-_}
 use lib.ListN.{length}
 use Rattle.lists.proofs.Loops.{Sought, loops}

@@ -12,4 +12,5 @@ abbrev μ-loop : tie.MeasureT-loop
 μ-loop out₀ s i₀ out i = length s - i
 
 pub put-bytes-spec : {M : Type 1} → statement M
-put-bytes-spec = tie.close (tie.spec Inv-loop μ-loop (λ c. search copies) (λ c. search copies) (λ c. search copies) (λ c. search copies) (λ c. search copies) (λ c. search copies) (λ c. search copies) (λ c. search copies))
+put-bytes-spec = tie.close (tie.spec Inv-loop μ-loop (λ c. search copies) (λ c. search copies) (λ c. search copies) (λ c. search copies) (λ c. search copies) (λ c. search copies)
+    (λ c. search copies) (λ c. search copies))

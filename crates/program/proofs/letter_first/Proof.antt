@@ -1,4 +1,4 @@
--- `program::letter_first` meets its contract. Assumes nothing.
+-- `program::letter_first` meets its contract: `first-none` where there is no byte, else `first-is`. Assumes nothing.
 use Rattle.program.proofs.Rules.{rules}
 use Rattle.program.proofs.letter_first.Statement.{statement}
 use Rattle.program.proofs.letter_first.Tie as tie

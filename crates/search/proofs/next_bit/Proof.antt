@@ -1,8 +1,8 @@
--- `search::next_bit` meets its contract. Assumes nothing.
+-- `search::next_bit` meets its contract: a shift of one is exact below 32 bits. Assumes nothing.
 use Prim.Native.Nat.{_-_}
 use native.Mathlib.Omega.{arith}
-use Rattle.search.proofs.Loops.{one-shl}
-use Rattle.search.proofs.Rules.{rules}
+use Rattle.sets.proofs.Highest.{one-shl}
+use Rattle.search.proofs.Rules.{seeking}
 use Rattle.search.proofs.next_bit.Statement.{statement}
 use Rattle.search.proofs.next_bit.Tie as tie
 
@@ -13,7 +13,7 @@ shl-result : tie.Need-shl-result
 shl-result c = omega (arith, c .pre .0)
 
 returns : tie.Need-returns
-returns c = one-shl (c .args .k - 1) (omega (arith, c .pre .0))
+returns c = one-shl 32 (c .args .k - 1) (omega (arith, c .pre .0))
 
 pub next-bit-spec : {M : Type 1} → statement M
-next-bit-spec = tie.close (tie.spec sub-result (λ c. search rules) shl-result returns)
+next-bit-spec = tie.close (tie.spec sub-result (λ c. search seeking) shl-result returns)

@@ -1,22 +1,8 @@
--- `search::search` meets its contract. Assumes nothing.
-use Rattle.search.proofs.Runs.{asks}
-use Rattle.search.proofs.Rules.{turning}
+-- `search::search` meets its contract: `no-table` where the table is refused, else `searched`, from what `pack` and the run over clauses ensure. Assumes nothing.
+use Rattle.search.proofs.Rules.{ending}
 use Rattle.search.proofs.search.Statement.{statement}
 use Rattle.search.proofs.search.Tie as tie
 
-search-clauses-requires : tie.Need-search-clauses-requires
-search-clauses-requires c κs =
-    let e = c .before .before .before .before .before .before .before in
-    asks _ (e .before .is-valid .ensures) (e .if1 .left)
-
 pub search-spec : {M : Type 1} → statement M
-search-spec =
-    tie.close
-    (tie.spec
-    (λ c. search turning)
-    (λ c. search turning)
-    (λ c. search turning)
-    (λ c. search turning)
-    search-clauses-requires
-    (λ c. search turning)
-    (λ c. search turning))
+search-spec = tie.close (tie.spec (λ c. search ending) (λ c. search ending) (λ c. search ending) (λ c. search ending) (λ c κs. (search ending, search ending)) (λ c. search ending)
+    (λ c. search ending))

@@ -1,4 +1,4 @@
--- `search::tick` meets its contract. Assumes nothing.
+-- `search::tick` meets its contract: one law for each way to leave it: visited before, spent, counted. Assumes nothing.
 use Rattle.search.proofs.Rules.{seeking}
 use Rattle.search.proofs.tick.Statement.{statement}
 use Rattle.search.proofs.tick.Tie as tie

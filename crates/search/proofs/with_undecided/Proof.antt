@@ -1,19 +1,19 @@
--- `search::with_undecided` meets its contract. Assumes nothing.
+-- `search::with_undecided` meets its contract: a shift of one is exact below 32 bits, and the word has room above its undecided bits. Assumes nothing.
 use native.Mathlib.Omega.{arith}
 use lib.Pow.{pow-pos}
-use Rattle.search.proofs.Loops.{one-shl}
-use Rattle.search.proofs.Rules.{rules}
+use Rattle.sets.proofs.Highest.{one-shl}
+use Rattle.search.proofs.Rules.{seeking}
 use Rattle.search.proofs.with_undecided.Statement.{statement}
 use Rattle.search.proofs.with_undecided.Tie as tie
 
 sub-result : tie.Need-sub-result
-sub-result c = omega (arith, one-shl (c .args .k) (omega (arith, c .pre .few)), pow-pos (c .args .k))
+sub-result c = omega (arith, one-shl 32 (c .args .k) (omega (arith, c .pre .few)), pow-pos (c .args .k))
 
 add-result : tie.Need-add-result
-add-result c = omega (arith, one-shl (c .args .k) (omega (arith, c .pre .few)), c .pre .fits)
+add-result c = omega (arith, one-shl 32 (c .args .k) (omega (arith, c .pre .few)), c .pre .fits)
 
 returns : tie.Need-returns
-returns c = omega (arith, one-shl (c .args .k) (omega (arith, c .pre .few)))
+returns c = omega (arith, one-shl 32 (c .args .k) (omega (arith, c .pre .few)))
 
 pub with-undecided-spec : {M : Type 1} → statement M
-with-undecided-spec = tie.close (tie.spec (λ c. search rules) (λ c. search rules) sub-result add-result returns)
+with-undecided-spec = tie.close (tie.spec (λ c. search seeking) (λ c. search seeking) sub-result add-result returns)

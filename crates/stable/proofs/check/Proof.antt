@@ -1,4 +1,4 @@
--- `stable::check` meets its contract. Assumes nothing.
+-- `stable::check` meets its contract: `no-table` and `no-word` where it refuses, else `checked`, from what the check over clauses ensures. Assumes nothing.
 use Rattle.stable.proofs.Rules.{rules}
 use Rattle.stable.proofs.check.Statement.{statement}
 use Rattle.stable.proofs.check.Tie as tie

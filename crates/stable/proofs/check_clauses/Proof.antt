@@ -1,4 +1,4 @@
--- `stable::check_clauses` meets its contract. Assumes nothing.
+-- `stable::check_clauses` meets its contract: one law for each answer: `is-violated`, `is-smaller`, `is-stable`. Assumes nothing.
 use Rattle.stable.proofs.Rules.{rules}
 use Rattle.stable.proofs.check_clauses.Statement.{statement}
 use Rattle.stable.proofs.check_clauses.Tie as tie

@@ -1,4 +1,4 @@
--- `stable::first_violated` meets its contract. Assumes nothing.
+-- `stable::first_violated` meets its contract: the loop has looked at every clause below k, and none is violated. Assumes nothing.
 use Prim.Native.Nat.{_-_}
 use Rattle.sets.proofs.Least.{Searched}
 use Rattle.program.specs.Clauses.{clauseAt}
@@ -15,4 +15,5 @@ abbrev μ-loop : tie.MeasureT-loop
 μ-loop heads bodies nafs count by w k₀ k = count - k
 
 pub first-violated-spec : {M : Type 1} → statement M
-first-violated-spec = tie.close (tie.spec Inv-loop μ-loop (λ c. search rules) (λ c. search rules) (λ c. search rules) (λ c. search rules) (λ c. search rules) (λ c. search rules) (λ c. search rules) (λ c. search rules) (λ c. search rules) (λ c. search rules) (λ c. search rules) (λ c. search rules) (λ c. search rules))
+first-violated-spec = tie.close (tie.spec Inv-loop μ-loop (λ c. search rules) (λ c. search rules) (λ c. search rules) (λ c. search rules) (λ c. search rules) (λ c. search rules)
+    (λ c. search rules) (λ c. search rules) (λ c. search rules) (λ c. search rules) (λ c. search rules) (λ c. search rules) (λ c. search rules))

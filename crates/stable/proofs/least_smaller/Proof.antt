@@ -16,4 +16,5 @@ abbrev μ-loop : tie.MeasureT-loop
 μ-loop heads bodies nafs count candidate j₀ j = candidate - j
 
 pub least-smaller-spec : {M : Type 1} → statement M
-least-smaller-spec = tie.close (tie.spec Inv-loop μ-loop (λ c. search rules) (λ c. search rules) (λ c. search rules) (λ c. search rules) (λ c. search rules) (λ c. search rules) (λ c. search rules))
+least-smaller-spec = tie.close (tie.spec Inv-loop μ-loop (λ c. search rules) (λ c. search rules) (λ c. search rules) (λ c. search rules) (λ c. search rules) (λ c. search rules)
+    (λ c. search rules))

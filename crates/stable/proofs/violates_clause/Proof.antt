@@ -1,4 +1,4 @@
--- `stable::violates_clause` meets its contract. Assumes nothing.
+-- `stable::violates_clause` meets its contract: the three tests are the definition's. Assumes nothing.
 use Rattle.semantics.specs.Interpretations.{violates}
 use Rattle.stable.proofs.Rules.{rules}
 use Rattle.stable.proofs.violates_clause.Statement.{statement}

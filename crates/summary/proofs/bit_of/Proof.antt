@@ -1,4 +1,4 @@
--- `summary::bit_of` meets its contract. Assumes nothing.
+-- `summary::bit_of` meets its contract: the bit is given where the value occurs, and 0 where not. Assumes nothing.
 use mathlib.Core.Path.{sym, ap}
 use mathlib.Core.Bool.{Bool}
 use native.Mathlib.Omega.{arith}

@@ -1,4 +1,4 @@
--- `summary::is_settled` meets its contract. Assumes nothing.
+-- `summary::is_settled` meets its contract: the sum of the four bits is the definition's. Assumes nothing.
 use Rattle.summary.specs.Summary.{isSettled}
 use Rattle.summary.proofs.Laws.{rules}
 use Rattle.summary.proofs.is_settled.Statement.{statement}

@@ -1,4 +1,4 @@
--- `summary::occurring_in` meets its contract. Assumes nothing.
+-- `summary::occurring_in` meets its contract: the sum of the four bits, each of which is at most its value, fits a byte. Assumes nothing.
 use native.Mathlib.Omega.{arith}
 use Rattle.summary.specs.Summary.{occurringIn}
 use Rattle.summary.proofs.Laws.{rules}

@@ -1,4 +1,4 @@
--- `summary::occurring_of` meets its contract. Assumes nothing.
+-- `summary::occurring_of` meets its contract: the places below i are filled, the loop law of a filled array. Assumes nothing.
 use Prim.Native.Nat.{_-_}
 use Rattle.lists.proofs.Filling.{Filled}
 use Rattle.summary.specs.Summary.{shownAt}
@@ -13,4 +13,5 @@ abbrev μ-loop : tie.MeasureT-loop
 μ-loop words n out₀ i₀ out i = 12 - i
 
 pub occurring-of-spec : {M : Type 1} → statement M
-occurring-of-spec = tie.close (tie.spec Inv-loop μ-loop (λ c. search rules) (λ c. search rules) (λ c. search rules) (λ c. search rules) (λ c. search rules) (λ c. search rules) (λ c. search rules))
+occurring-of-spec = tie.close (tie.spec Inv-loop μ-loop (λ c. search rules) (λ c. search rules) (λ c. search rules) (λ c. search rules) (λ c. search rules) (λ c. search rules)
+    (λ c. search rules))

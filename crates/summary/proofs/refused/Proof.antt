@@ -1,4 +1,4 @@
--- `summary::refused` meets its contract. Assumes nothing.
+-- `summary::refused` meets its contract: arrays of zeros are the definition's. Assumes nothing.
 use Rattle.summary.specs.Summary.{refusedSummary}
 use Rattle.summary.proofs.Laws.{rules}
 use Rattle.summary.proofs.refused.Statement.{statement}

@@ -1,4 +1,4 @@
--- `summary::settled_at` meets its contract. Assumes nothing.
+-- `summary::settled_at` meets its contract: `settled-in` for an atom of the program, `settled-out` for another. Assumes nothing.
 use Rattle.summary.proofs.Laws.{rules}
 use Rattle.summary.proofs.settled_at.Statement.{statement}
 use Rattle.summary.proofs.settled_at.Tie as tie

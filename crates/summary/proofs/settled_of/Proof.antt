@@ -1,4 +1,4 @@
--- `summary::settled_of` meets its contract. Assumes nothing.
+-- `summary::settled_of` meets its contract: the places below i are filled, the loop law of a filled array. Assumes nothing.
 use mathlib.Core.Bool.{false}
 use Prim.Native.Nat.{_-_}
 use Rattle.lists.proofs.Filling.{Filled}
@@ -14,4 +14,5 @@ abbrev μ-loop : tie.MeasureT-loop
 μ-loop shown n out₀ i₀ out i = 12 - i
 
 pub settled-of-spec : {M : Type 1} → statement M
-settled-of-spec = tie.close (tie.spec Inv-loop μ-loop (λ c. search rules) (λ c. search rules) (λ c. search rules) (λ c. search rules) (λ c. search rules) (λ c. search rules) (λ c. search rules))
+settled-of-spec = tie.close (tie.spec Inv-loop μ-loop (λ c. search rules) (λ c. search rules) (λ c. search rules) (λ c. search rules) (λ c. search rules) (λ c. search rules)
+    (λ c. search rules))

@@ -1,4 +1,4 @@
--- `summary::shown_at` meets its contract. Assumes nothing.
+-- `summary::shown_at` meets its contract: `shown-in` for an atom of the program, `shown-out` for another. Assumes nothing.
 use Rattle.summary.proofs.Laws.{rules}
 use Rattle.summary.proofs.shown_at.Statement.{statement}
 use Rattle.summary.proofs.shown_at.Tie as tie

@@ -1,4 +1,4 @@
--- `summary::takes` meets its contract. Assumes nothing.
+-- `summary::takes` meets its contract: the value is what `value_in` ensures. Assumes nothing.
 use Rattle.summary.proofs.Laws.{rules}
 use Rattle.summary.proofs.takes.Statement.{statement}
 use Rattle.summary.proofs.takes.Tie as tie

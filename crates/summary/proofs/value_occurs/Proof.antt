@@ -1,4 +1,4 @@
--- `summary::value_occurs` meets its contract. Assumes nothing.
+-- `summary::value_occurs` meets its contract: no word below j gives the value. Assumes nothing.
 use Prim.Native.Nat.{_-_}
 use lib.Dec.{eqb}
 use lib.ListN.{length}
@@ -24,4 +24,5 @@ unfolding occurs
 returns-2 c = search rules
 
 pub value-occurs-spec : {M : Type 1} → statement M
-value-occurs-spec = tie.close (tie.spec Inv-loop μ-loop (λ c. search rules) (λ c. search rules) (λ c. search rules) (λ c. search rules) returns (λ c. search rules) (λ c. search rules) (λ c. search rules) returns-2)
+value-occurs-spec = tie.close (tie.spec Inv-loop μ-loop (λ c. search rules) (λ c. search rules) (λ c. search rules) (λ c. search rules) returns (λ c. search rules) (λ c. search rules)
+    (λ c. search rules) returns-2)

@@ -1,0 +1,17 @@
+-- `leaf::pack` meets its contract: the clauses below i stand in the array as they stand in the columns. Assumes nothing.
+use Prim.Native.Nat.{_-_}
+use Rattle.leaf.proofs.Packing.{Packing}
+use Rattle.leaf.proofs.Rules.{rules}
+use Rattle.leaf.proofs.pack.Statement.{statement}
+use Rattle.leaf.proofs.pack.Tie as tie
+
+abbrev Inv-loop : tie.InvT-loop
+Inv-loop heads bodies nafs table₀ i₀ table i = Packing heads bodies nafs i table
+
+abbrev μ-loop : tie.MeasureT-loop
+μ-loop heads bodies nafs table₀ i₀ table i = 64 - i
+
+pub pack-spec : {M : Type 1} → statement M
+pack-spec = tie.close (tie.spec Inv-loop μ-loop (λ c. search rules) (λ c. search rules) (λ c. search rules) (λ c. search rules) (λ c. search rules) (λ c. search rules) (λ c. search rules)
+    (λ c. search rules) (λ c. search rules) (λ c. search rules) (λ c. search rules) (λ c. search rules) (λ c. search rules) (λ c. search rules) (λ c. search rules) (λ c. search rules)
+    (λ c. search rules) (λ c. search rules) (λ c. search rules))

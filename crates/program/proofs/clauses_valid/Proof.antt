@@ -1,7 +1,0 @@
--- `program::clauses_valid` meets its contract. Assumes nothing.
-use Rattle.program.proofs.Rules.{rules}
-use Rattle.program.proofs.clauses_valid.Statement.{statement}
-use Rattle.program.proofs.clauses_valid.Tie as tie
-
-pub clauses-valid-spec : {M : Type 1} → statement M
-clauses-valid-spec = tie.close (tie.spec (λ c. search rules) (λ c. search rules) (λ c. search rules) (λ c. search rules) (λ c. search rules) (λ c. search rules))

@@ -1,7 +1,0 @@
--- `program::is_place` meets its contract. Assumes nothing.
-use Rattle.program.proofs.Rules.{rules}
-use Rattle.program.proofs.is_place.Statement.{statement}
-use Rattle.program.proofs.is_place.Tie as tie
-
-pub is-place-spec : {M : Type 1} → statement M
-is-place-spec = tie.close (tie.spec (λ c. search rules) (λ c. search rules) (λ c. search rules) (λ c. search rules) (λ c. search rules))

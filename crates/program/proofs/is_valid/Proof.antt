@@ -1,7 +1,0 @@
--- `program::is_valid` meets its contract. Assumes nothing.
-use Rattle.program.proofs.Rules.{rules}
-use Rattle.program.proofs.is_valid.Statement.{statement}
-use Rattle.program.proofs.is_valid.Tie as tie
-
-pub is-valid-spec : {M : Type 1} → statement M
-is-valid-spec = tie.close (tie.spec (λ c. search rules) (λ c. search rules) (λ c. search rules))
