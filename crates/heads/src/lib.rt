@@ -6,11 +6,11 @@ ghost use Prim.Native.Nat.{_≤_, _<_};
 ghost use lib.Count.{ones};
 ghost use lib.Dec.{eqb, ltb};
 ghost use lib.ListN.{length, take};
-ghost use Rattle.sets.specs.Lists.{Rising, anyOf, sift};
+ghost use Rattle.sets.specs.Lists.{Rising, anyOf, sift, onward, tabulate};
 ghost use Rattle.sets.specs.Words.{apart, meets, Highest};
 ghost use Rattle.rising.specs.Growing.{Grown};
 ghost use Rattle.rising.specs.RisingSets.{addAll};
-ghost use Rattle.heads.specs.Heads.{headsFrom, picks, offeredBy, without, between, Literal};
+ghost use Rattle.heads.specs.Heads.{headAt, picks, offeredBy, without, between, Literal};
 
 // The highest literal of a word that has one, as a word.
 fn highest(s: u64) -> u64
@@ -154,7 +154,7 @@ fn pick(s: u64, k: usize, server: &[usize; 64]) -> u32
 // The literals of the first `n` heads.
 fn offered(wide: &[u64; 64], n: usize) -> u64
     requires { ⌜ n ≤ 64 ⌝ }
-    ensures { λ r. ⌜ r ≡ offeredBy (headsFrom (now (wide .entry)) n 0) ⌝ }
+    ensures { λ r. ⌜ r ≡ offeredBy (tabulate (headAt (now (wide .entry))) n) ⌝ }
 {
     let mut all: u64 = 0;
     let mut k: usize = 0;
@@ -168,7 +168,7 @@ fn offered(wide: &[u64; 64], n: usize) -> u64
 // Whether some of the first `n` heads misses `v`.
 fn missed(wide: &[u64; 64], n: usize, v: u64) -> bool
     requires { ⌜ n ≤ 64 ⌝ }
-    ensures { λ r. ⌜ r ≡ anyOf (apart v) (headsFrom (now (wide .entry)) n 0) ⌝ }
+    ensures { λ r. ⌜ r ≡ anyOf (apart v) (tabulate (headAt (now (wide .entry))) n) ⌝ }
 {
     let mut k: usize = 0;
     while k < n {
@@ -183,7 +183,7 @@ fn missed(wide: &[u64; 64], n: usize, v: u64) -> bool
 // How many of the first `n` heads meet `x`.
 fn meeting(wide: &[u64; 64], n: usize, x: u64) -> u32
     requires { ⌜ n ≤ 64 ⌝ }
-    ensures { λ r. ⌜ r ≡ length (sift (meets x) (headsFrom (now (wide .entry)) n 0)) ⌝ }
+    ensures { λ r. ⌜ r ≡ length (sift (meets x) (tabulate (headAt (now (wide .entry))) n)) ⌝ }
 {
     let mut m: u32 = 0;
     let mut k: usize = 0;
@@ -201,7 +201,7 @@ fn meeting(wide: &[u64; 64], n: usize, x: u64) -> u32
 // Whether `x` has more literals than the first `n` heads can put in.
 fn too_many(wide: &[u64; 64], n: usize, x: u64) -> bool
     requires { ⌜ n ≤ 64 ⌝ }
-    ensures { λ r. ⌜ r ≡ ltb (length (sift (meets x) (headsFrom (now (wide .entry)) n 0))) (ones x) ⌝ }
+    ensures { λ r. ⌜ r ≡ ltb (length (sift (meets x) (tabulate (headAt (now (wide .entry))) n))) (ones x) ⌝ }
 {
     meeting(wide, n, x) < u64::count_ones(x)
 }
@@ -218,7 +218,7 @@ fn barren(
     server: &mut [usize; 64],
 ) -> bool
     requires { ⌜ n ≤ 64 ⌝ }
-    ensures { λ r. ⌜ (r ≡ true → sift (between free w) (picks (headsFrom (now (wide .entry)) n 0) j) ≡ []) ⌝ }
+    ensures { λ r. ⌜ (r ≡ true → sift (between free w) (picks (tabulate (headAt (now (wide .entry))) n) j) ≡ []) ⌝ }
 {
     if t == 0 {
         return missed(wide, n, w | free);
@@ -240,7 +240,7 @@ fn reaches<'a>(
     server: &'a [usize; 64],
 ) -> bool
     requires { ⌜ (n ≤ 64) × (k ≤ n) ⌝ }
-    ensures { λ r. ⌜ r ≡ anyOf (eqb w) (picks (headsFrom (now (wide .entry)) n k) j) ⌝ }
+    ensures { λ r. ⌜ r ≡ anyOf (eqb w) (picks (onward (headAt (now (wide .entry))) n k) j) ⌝ }
 {
     if k == n {
         return w == j;
@@ -267,7 +267,7 @@ fn settle_one<'a>(
     held: usize,
 ) -> usize
     requires { ⌜ (n ≤ 64) × (held ≤ length (now set)) × Rising (take held (now set)) ⌝ }
-    ensures { λ r. ⌜ Grown (length (now (set .entry))) (addAll (sift (eqb w) (picks (headsFrom (now (wide .entry)) n 0) j)) (take held (now (set .entry)))) (now (set .exit)) r ⌝ }
+    ensures { λ r. ⌜ Grown (length (now (set .entry))) (addAll (sift (eqb w) (picks (tabulate (headAt (now (wide .entry))) n) j)) (take held (now (set .entry)))) (now (set .exit)) r ⌝ }
 {
     if reaches(wide, n, w, 0, j, server) {
         return rising::insert(set, held, w);
@@ -289,7 +289,7 @@ fn scan(
     held: usize,
 ) -> usize
     requires { ⌜ (n ≤ 64) × (held ≤ length (now set)) × Rising (take held (now set)) ⌝ }
-    ensures { λ r. ⌜ Grown (length (now (set .entry))) (addAll (sift (between free w) (picks (headsFrom (now (wide .entry)) n 0) j)) (take held (now (set .entry)))) (now (set .exit)) r ⌝ }
+    ensures { λ r. ⌜ Grown (length (now (set .entry))) (addAll (sift (between free w) (picks (tabulate (headAt (now (wide .entry))) n) j)) (take held (now (set .entry)))) (now (set .exit)) r ⌝ }
 {
     if barren(wide, n, j, free, w, t, server) {
         return held;
@@ -309,7 +309,7 @@ fn scan(
 // Puts into the set every set made of `j` and one literal, chosen every way, of each of the first `n` heads.
 pub fn combine(wide: &[u64; 64], n: usize, j: u64, set: &mut [u64], held: usize) -> usize
     requires { ⌜ (n ≤ 64) × (held ≤ length (now set)) × Rising (take held (now set)) ⌝ }
-    ensures { λ r. ⌜ Grown (length (now (set .entry))) (addAll (picks (headsFrom (now (wide .entry)) n 0) j) (take held (now (set .entry)))) (now (set .exit)) r ⌝ }
+    ensures { λ r. ⌜ Grown (length (now (set .entry))) (addAll (picks (tabulate (headAt (now (wide .entry))) n) j) (take held (now (set .entry)))) (now (set .exit)) r ⌝ }
 {
     let mut server = [64usize; 64];
     let free = less(offered(wide, n), j);

@@ -2,15 +2,15 @@
 ghost use mathlib.Core.Path.{_≡_};
 ghost use mathlib.Core.Bool.{_&&_};
 ghost use mathlib.Core.List.{_++_};
-ghost use Prim.Native.Nat.{_-_, _≤_, _<_};
+ghost use Prim.Native.Nat.{_≤_, _<_};
 ghost use lib.Count.{ones};
 ghost use lib.Dec.{ltb};
 ghost use lib.ListN.{length, take};
-ghost use Rattle.sets.specs.Lists.{Rising};
+ghost use Rattle.sets.specs.Lists.{Rising, onward, tabulate};
 ghost use Rattle.rising.specs.Growing.{Grown};
 ghost use Rattle.rising.specs.RisingSets.{addAll};
-ghost use Rattle.heads.specs.Heads.{headsFrom, picks};
-ghost use Rattle.operator.specs.Operator.{rulesFrom, choices, fired, bars, barred, next, Chosen};
+ghost use Rattle.heads.specs.Heads.{headAt, picks};
+ghost use Rattle.operator.specs.Operator.{ruleAt, choices, fired, bars, barred, next, Chosen};
 
 // Whether a head is set aside where `n` are: it has two literals or more, and there is a place for it.
 fn sets_aside(head: u64, n: usize) -> bool
@@ -34,7 +34,7 @@ fn choose<'a>(
     held: usize,
 ) -> usize
     requires { ⌜ (count ≤ length (now heads)) × (count ≤ length (now bodies)) × (k ≤ count) × (length (now wide) ≡ 64) × (n ≤ 64) × (held ≤ length (now set)) × Rising (take held (now set)) ⌝ }
-    ensures { λ r. ⌜ Chosen (length (now (set .entry))) (addAll (picks (headsFrom (now (wide .entry)) n 0 ++ fired i (rulesFrom (now (heads .entry)) (now (bodies .entry)) k (count - k))) j) (take held (now (set .entry)))) (now (set .exit)) r n (now (wide .entry)) (now (wide .exit)) ⌝ }
+    ensures { λ r. ⌜ Chosen (length (now (set .entry))) (addAll (picks (tabulate (headAt (now (wide .entry))) n ++ fired i (onward (ruleAt (now (heads .entry)) (now (bodies .entry))) count k)) j) (take held (now (set .entry)))) (now (set .exit)) r n (now (wide .entry)) (now (wide .exit)) ⌝ }
 {
     if k == count {
         return heads::combine(wide, n, j, set, held);
@@ -70,7 +70,7 @@ fn bars_at(head: u64, body: u64, i: u64) -> bool
 // Whether `i` contains some constraint's body.
 fn blocked<'a>(heads: &'a [u64], bodies: &'a [u64], count: usize, i: u64) -> bool
     requires { ⌜ (count ≤ length (now heads)) × (count ≤ length (now bodies)) ⌝ }
-    ensures { λ r. ⌜ r ≡ barred i (rulesFrom (now (heads .entry)) (now (bodies .entry)) 0 count) ⌝ }
+    ensures { λ r. ⌜ r ≡ barred i (tabulate (ruleAt (now (heads .entry)) (now (bodies .entry))) count) ⌝ }
 {
     let mut k: usize = 0;
     while k < count {
@@ -92,7 +92,7 @@ fn give<'a>(
     held: usize,
 ) -> usize
     requires { ⌜ (count ≤ length (now heads)) × (count ≤ length (now bodies)) × (held ≤ length (now set)) × Rising (take held (now set)) ⌝ }
-    ensures { λ r. ⌜ Grown (length (now (set .entry))) (addAll (choices i (rulesFrom (now (heads .entry)) (now (bodies .entry)) 0 count) i) (take held (now (set .entry)))) (now (set .exit)) r ⌝ }
+    ensures { λ r. ⌜ Grown (length (now (set .entry))) (addAll (choices i (tabulate (ruleAt (now (heads .entry)) (now (bodies .entry))) count) i) (take held (now (set .entry)))) (now (set .exit)) r ⌝ }
 {
     if blocked(heads, bodies, count, i) {
         return held;
@@ -111,7 +111,7 @@ pub fn step<'a>(
     after: &mut [u64],
 ) -> usize
     requires { ⌜ (count ≤ length (now heads)) × (count ≤ length (now bodies)) × (members ≤ length (now stage)) ⌝ }
-    ensures { λ r. ⌜ Grown (length (now (after .entry))) (next (rulesFrom (now (heads .entry)) (now (bodies .entry)) 0 count) (take members (now (stage .entry)))) (now (after .exit)) r ⌝ }
+    ensures { λ r. ⌜ Grown (length (now (after .entry))) (next (tabulate (ruleAt (now (heads .entry)) (now (bodies .entry))) count) (take members (now (stage .entry)))) (now (after .exit)) r ⌝ }
 {
     let mut n: usize = 0;
     let mut p: usize = 0;

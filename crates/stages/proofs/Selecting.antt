@@ -11,14 +11,14 @@ use native.Mathlib.Numerals.{add-one}
 use native.Mathlib.Omega.{arith}
 use borrow.Author.Needs.{needs}
 use Rattle.sets.specs.Lists.{sift, anyOf}
-use Rattle.sets.proofs.Tests.{clash}
+use Rattle.sets.proofs.Tests.{clash, via}
+use Rattle.sets.proofs.Lists.{lacks-start, lacks-hit, lacks-more, lacks-none}
 use Rattle.rising.specs.Slices.{Sifted}
 use Rattle.operator.specs.Operator.{WordRule, stage}
 use Rattle.stages.specs.Run.{finalStage, crowded, Settled, Settling}
 use Rattle.stages.specs.Minimal.{violates, satisfies, properIn, leastIn, minimals, minimalModels, Minimals}
 use Rattle.stages.proofs.Run.{crowded-start, reached-start}
 use Rattle.stages.proofs.Minimal.{any-none, any-one, sift-one, sift-none}
-use Rattle.operator.proofs.Stepping.{passing-start, passing-hit, passing-miss, passing-done}
 
 -- ---- the tests
 
@@ -174,10 +174,11 @@ pub ruleset selecting = (
   properly-is,
   satisfies-is,
   least-in-is,
-  passing-start,
-  passing-hit,
-  passing-miss,
-  passing-done,
+  lacks-start,
+  lacks-hit,
+  lacks-more,
+  lacks-none,
+  via,
   looking-start,
   looking-hit,
   looking-miss,

@@ -2,10 +2,10 @@
 ghost use mathlib.Core.Path.{_≡_};
 ghost use Prim.Native.Nat.{_+_, _-_, _≤_, _<_};
 ghost use lib.ListN.{length, take};
-ghost use Rattle.sets.specs.Lists.{sift, anyOf};
+ghost use Rattle.sets.specs.Lists.{sift, anyOf, tabulate};
 ghost use Rattle.lists.specs.Bytes.{same};
 ghost use Rattle.rising.specs.Slices.{Sifted};
-ghost use Rattle.operator.specs.Operator.{rulesFrom};
+ghost use Rattle.operator.specs.Operator.{ruleAt};
 ghost use Rattle.stages.specs.Run.{Settling, Settled};
 ghost use Rattle.stages.specs.Minimal.{violates, satisfies, properIn, leastIn, Minimals};
 
@@ -38,8 +38,8 @@ fn settle<'a>(
     k: usize,
 ) -> usize
     requires { ⌜ (count ≤ length (now heads)) × (count ≤ length (now bodies)) ⌝ }
-    requires { ⌜ Settling (rulesFrom (now heads) (now bodies) 0 count) (now a) members (now b) k ⌝ }
-    ensures { λ r. ⌜ Settled (rulesFrom (now (heads .entry)) (now (bodies .entry)) 0 count) (length (now (a .entry))) r (now (a .exit)) (now (b .exit)) ⌝ }
+    requires { ⌜ Settling (tabulate (ruleAt (now heads) (now bodies)) count) (now a) members (now b) k ⌝ }
+    ensures { λ r. ⌜ Settled (tabulate (ruleAt (now (heads .entry)) (now (bodies .entry))) count) (length (now (a .entry))) r (now (a .exit)) (now (b .exit)) ⌝ }
 {
     let n = operator::step(heads, bodies, count, a, members, b);
     if b.len() < n {
@@ -61,7 +61,7 @@ fn violates_at(head: u64, body: u64, w: u64) -> bool
 // Whether `w` violates some clause.
 fn violated<'a>(heads: &'a [u64], bodies: &'a [u64], count: usize, w: u64) -> bool
     requires { ⌜ (count ≤ length (now heads)) × (count ≤ length (now bodies)) ⌝ }
-    ensures { λ r. ⌜ r ≡ anyOf (violates w) (rulesFrom (now (heads .entry)) (now (bodies .entry)) 0 count) ⌝ }
+    ensures { λ r. ⌜ r ≡ anyOf (violates w) (tabulate (ruleAt (now (heads .entry)) (now (bodies .entry))) count) ⌝ }
 {
     let mut k: usize = 0;
     while k < count {
@@ -76,7 +76,7 @@ fn violated<'a>(heads: &'a [u64], bodies: &'a [u64], count: usize, w: u64) -> bo
 // Whether `w` satisfies every clause.
 fn satisfied<'a>(heads: &'a [u64], bodies: &'a [u64], count: usize, w: u64) -> bool
     requires { ⌜ (count ≤ length (now heads)) × (count ≤ length (now bodies)) ⌝ }
-    ensures { λ r. ⌜ r ≡ satisfies (rulesFrom (now (heads .entry)) (now (bodies .entry)) 0 count) w ⌝ }
+    ensures { λ r. ⌜ r ≡ satisfies (tabulate (ruleAt (now (heads .entry)) (now (bodies .entry))) count) w ⌝ }
 {
     !violated(heads, bodies, count, w)
 }
@@ -91,7 +91,7 @@ fn keep_models<'a>(
     kept: &mut [u64],
 ) -> usize
     requires { ⌜ (count ≤ length (now heads)) × (count ≤ length (now bodies)) × (members ≤ length (now stage)) × (members ≤ length (now kept)) ⌝ }
-    ensures { λ r. ⌜ Sifted (sift (satisfies (rulesFrom (now (heads .entry)) (now (bodies .entry)) 0 count)) (take members (now (stage .entry)))) members (now (kept .exit)) r ⌝ }
+    ensures { λ r. ⌜ Sifted (sift (satisfies (tabulate (ruleAt (now (heads .entry)) (now (bodies .entry))) count)) (take members (now (stage .entry)))) members (now (kept .exit)) r ⌝ }
 {
     let mut n: usize = 0;
     let mut p: usize = 0;
@@ -165,8 +165,8 @@ fn minimal_from<'a>(
     b: &mut [u64],
 ) -> usize
     requires { ⌜ (count ≤ length (now heads)) × (count ≤ length (now bodies)) ⌝ }
-    requires { ⌜ Settling (rulesFrom (now heads) (now bodies) 0 count) (now a) 1 (now b) 0 ⌝ }
-    ensures { λ r. ⌜ Minimals (rulesFrom (now (heads .entry)) (now (bodies .entry)) 0 count) (length (now (a .entry))) r (now (a .exit)) (now (b .exit)) ⌝ }
+    requires { ⌜ Settling (tabulate (ruleAt (now heads) (now bodies)) count) (now a) 1 (now b) 0 ⌝ }
+    ensures { λ r. ⌜ Minimals (tabulate (ruleAt (now (heads .entry)) (now (bodies .entry))) count) (length (now (a .entry))) r (now (a .exit)) (now (b .exit)) ⌝ }
 {
     let room = a.len();
     let n = settle(heads, bodies, count, a, 1, b, 0);
@@ -187,7 +187,7 @@ pub fn minimal_models<'a>(
     second: &mut [u64],
 ) -> usize
     requires { ⌜ (count ≤ length (now heads)) × (count ≤ length (now bodies)) × (length (now second) ≡ length (now first)) ⌝ }
-    ensures { λ r. ⌜ Minimals (rulesFrom (now (heads .entry)) (now (bodies .entry)) 0 count) (length (now (first .entry))) r (now (first .exit)) (now (second .exit)) ⌝ }
+    ensures { λ r. ⌜ Minimals (tabulate (ruleAt (now (heads .entry)) (now (bodies .entry))) count) (length (now (first .entry))) r (now (first .exit)) (now (second .exit)) ⌝ }
 {
     if first.len() == 0 {
         return 1;

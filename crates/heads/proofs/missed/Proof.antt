@@ -1,12 +1,14 @@
 -- `heads::missed` meets its contract. Assumes nothing.
 use Prim.Native.Nat.{_-_}
-use Rattle.heads.proofs.Loops.{Missing}
+use Rattle.sets.proofs.Lists.{Lacks}
+use Rattle.sets.specs.Words.{apart}
+use Rattle.heads.specs.Heads.{headAt}
 use Rattle.heads.proofs.Rules.{loops}
 use Rattle.heads.proofs.missed.Statement.{statement}
 use Rattle.heads.proofs.missed.Tie as tie
 
 abbrev Inv-loop : tie.InvT-loop
-Inv-loop wide n v k₀ k = Missing wide n v k
+Inv-loop wide n v k₀ k = Lacks (headAt wide) n (apart v) 0 k
 
 abbrev μ-loop : tie.MeasureT-loop
 μ-loop wide n v k₀ k = n - k

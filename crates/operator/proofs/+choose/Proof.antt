@@ -88,7 +88,7 @@ pub +choose-spec : {M : Type 1} → statement M
     let s = e .before .before .before .before in
     let h = getD (s .args .heads .now) (s .args .k) 0 in
     let room = aside-room h (s .args .n) _ (c .before .before .before .before .before .before .sets-aside .ensures) (c .before .before .before .before .before .if3 .taken) in
-    put-aside _ _ _ _ _ _ _ _ _ _ (s .pre .1) (e .if1 .left) (f .subset .result) (f .subset .ensures) _ _ _ (not-false _ (c .before .before .before .before .before .before .before .before .if2 .left)) room (g .ensures))
+    put-aside (s .args .heads .now) (s .args .bodies .now) (s .args .count) (s .args .i) (s .args .k) (s .args .j) (s .args .wide .now) (s .args .n) (s .args .set .now) (s .args .held) (s .pre .1) (e .if1 .left) (f .subset .result) (f .subset .ensures) _ _ _ (not-false _ (c .before .before .before .before .before .before .before .before .if2 .left)) room (g .ensures))
     (λ c.
     let f = c .before .before .before .before in
     let e = f .before .before in

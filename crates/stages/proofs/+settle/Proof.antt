@@ -2,7 +2,8 @@
 use Rattle.stages.proofs.Coming.{settling}
 use Rattle.stages.proofs.Coming.{settle-less}
 use Rattle.stages.proofs.Coming.{settle-on}
-use Rattle.operator.specs.Operator.{rulesFrom}
+use Rattle.operator.specs.Operator.{ruleAt}
+use Rattle.sets.specs.Lists.{tabulate}
 use Rattle.stages.specs.Run.{latestRest}
 use native.Mathlib.Omega.{arith}
 use Prim.Native.Nat.{ℕ, _<_, _-_}
@@ -40,7 +41,7 @@ settle-settle-requires t c κs =
     let g = room .before .before .before in
     let s = g .before .before .before .before .before .before .before in
     let a = s .args in
-    let Q = rulesFrom (a .heads .now) (a .bodies .now) 0 (a .count) in
+    let Q = tabulate (ruleAt (a .heads .now) (a .bodies .now)) (a .count) in
     let out = g .step .last .1 .1 .1 .1 .1 .0 in
     let t = w .same-words .result in
     let less = settle-less Q (a .a .now) (a .members) (a .b .now) (a .k) (s .pre .1 .1) out (g .step .result) (g .step .ensures) t (room .if1 .left) (w .same-words .ensures) (differ .if2 .left) in
