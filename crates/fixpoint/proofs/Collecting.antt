@@ -12,7 +12,7 @@ use mathlib.Core.Path.{_≡_, refl, sym, ap, ap₂, _∙_, subst}
 use native.Mathlib.Nat.{one-mul}
 use native.Mathlib.Numerals.{add-one}
 use native.Mathlib.Omega.{arith}
-use Rattle.transform.specs.Listing.{literalPart, canonical}
+use Rattle.transform.specs.Listing.{literalPart, canonical, partsOf}
 use Rattle.fixpoint.specs.Overwriting.{overwrite}
 use Rattle.sets.proofs.Lists.{at-in}
 use Rattle.sets.specs.Lists.{Each, sift, Rising}
@@ -23,7 +23,7 @@ use Rattle.rising.proofs.RisingSets.{nothing-rises}
 use Rattle.stages.proofs.Selecting.{one-more, no-more}
 use Rattle.rising.proofs.Slices.{size-fits}
 use Rattle.rising.specs.RisingSets.{insertInto, addAll, gather}
-use Rattle.rising.specs.Slices.{Put, Kept}
+use Rattle.rising.specs.Slices.{Put, Sifted}
 
 pub low-is : (w m : ℕ) → m < 64 → bitAnd w (1 * 2 ^ m % 2 ^ 64 - 1) ≡ literalPart m w
 low-is w m h = ap (λ (x : ℕ). bitAnd w (x - 1)) (shl-exact 1 m 64 (lit< tt) (omega arith) ∙ one-mul (2 ^ m)) ∙ and-mask w m
@@ -57,17 +57,21 @@ pub record Collecting (m : ℕ) (l : List ℕ) (count : ℕ) (xs ys : List ℕ) 
   pub room : count ≤ length xs
   pub bits : m < 64
   pub within : p ≤ count
-  pub grows : Growing (length xs) (gather (map (literalPart m) (sift (canonical m) (take count l)))) (map (literalPart m) (sift (canonical m) (drop p (take count l)))) ys n
+  pub grows : Growing (length xs) (partsOf m (take count l)) (map (literalPart m) (sift (canonical m) (drop p (take count l)))) ys n
 
 module _ (m : ℕ) (l : List ℕ) (count : ℕ) (xs : List ℕ) where
   pub collecting-start : (count ≤ length l) × (count ≤ length xs) × (m < 64) → Collecting m l count xs xs 0 0
-  collecting-start h = record { inside = h .0; room = h .1; bits = h .2; within = omega arith; grows = grow-start xs (map (literalPart m) (sift (canonical m) (take count l))) 0 (omega arith) nothing-rises }
+  collecting-start h = record {
+    inside = h .0;
+    room = h .1;
+    bits = h .2;
+    within = omega arith;
+    grows = grow-start xs (map (literalPart m) (sift (canonical m) (take count l))) 0
+        (omega arith) nothing-rises;
+  }
 
   module _ (ys : List ℕ) (n p : ℕ) (s : Collecting m l count xs ys n p) where
-    all : List ℕ
-    all = gather (map (literalPart m) (sift (canonical m) (take count l)))
-
-    few : length (gather (map (literalPart m) (sift (canonical m) (take count l)))) ≤ count
+    few : length (partsOf m (take count l)) ≤ count
     few =
         let a = add-shorter (map (literalPart m) (sift (canonical m) (take count l))) [] in
         let b = length-map (sift (canonical m) (take count l)) (literalPart m) in
@@ -88,7 +92,8 @@ module _ (m : ℕ) (l : List ℕ) (count : ℕ) (xs : List ℕ) where
     pub collecting-long : length ys ≡ length xs
     collecting-long = s .grows .long
 
-    part : p < count → sift (canonical m) (drop p (take count l)) ≡ cond (canonical m (getD l p 0)) (getD l p 0 ∷ sift (canonical m) (drop (p + 1) (take count l))) (sift (canonical m) (drop (p + 1) (take count l)))
+    part : p < count → sift (canonical m) (drop p (take count l)) ≡ cond (canonical m (getD l p 0)) (getD l p 0 ∷ sift (canonical m) (drop (p + 1) (take count l)))
+        (sift (canonical m) (drop (p + 1) (take count l)))
     part h = ap (sift (canonical m)) (one-more l count p (s .inside) h) ∙ sift-one (canonical m) (getD l p 0) (drop (p + 1) (take count l))
 
     pub collecting-skip : (b : Bool) → p < count → b ≡ canonical m (getD l p 0) → b ≡ false → Collecting m l count xs ys n (p + 1)
@@ -97,7 +102,7 @@ module _ (m : ℕ) (l : List ℕ) (count : ℕ) (xs : List ℕ) where
       room = s .room;
       bits = s .bits;
       within = omega arith;
-      grows = subst (λ (k : List ℕ). Growing (length xs) (gather (map (literalPart m) (sift (canonical m) (take count l)))) (map (literalPart m) k) ys n)
+      grows = subst (λ (k : List ℕ). Growing (length xs) (partsOf m (take count l)) (map (literalPart m) k) ys n)
           (part h ∙ ap (λ (x : Bool). cond x (getD l p 0 ∷ sift (canonical m) (drop (p + 1) (take count l))) (sift (canonical m) (drop (p + 1) (take count l)))) (sym e ∙ y)) (s .grows);
     }
 
@@ -109,20 +114,20 @@ module _ (m : ℕ) (l : List ℕ) (count : ℕ) (xs : List ℕ) where
       room = s .room;
       bits = s .bits;
       within = omega arith;
-      grows = grow-call (length xs) (gather (map (literalPart m) (sift (canonical m) (take count l)))) (x ∷ []) (map (literalPart m) (sift (canonical m) (drop p (take count l))))
+      grows = grow-call (length xs) (partsOf m (take count l)) (x ∷ []) (map (literalPart m) (sift (canonical m) (drop p (take count l))))
           (map (literalPart m) (sift (canonical m) (drop (p + 1) (take count l)))) ys out n r (s .grows)
           (ap (map (literalPart m)) (part h ∙ ap (λ (z : Bool). cond z (getD l p 0 ∷ sift (canonical m) (drop (p + 1) (take count l))) (sift (canonical m) (drop (p + 1) (take count l)))) (sym e ∙ y))
           ∙ ap (λ (z : ℕ). z ∷ map (literalPart m) (sift (canonical m) (drop (p + 1) (take count l)))) (sym v))
           (omega (arith, collecting-fits, s .grows .long)) (put-grown ys out (insertInto x (take n ys)) r g);
     }
 
-    pub collecting-done : count ≤ p → Kept (gather (map (literalPart m) (sift (canonical m) (take count l)))) ys n × (n ≤ count)
+    pub collecting-done : count ≤ p → Sifted (partsOf m (take count l)) count ys n
     collecting-done h =
-        let d = grow-done (length xs) (gather (map (literalPart m) (sift (canonical m) (take count l)))) (map (literalPart m) (sift (canonical m) (drop p (take count l)))) ys n (s .grows)
+        let d = grow-done (length xs) (partsOf m (take count l)) (map (literalPart m) (sift (canonical m) (drop p (take count l)))) ys n (s .grows)
         (ap (map (literalPart m)) (ap (sift (canonical m)) (no-more l count p (s .inside) h) ∙ sift-none (canonical m))) in
-        let f : length (gather (map (literalPart m) (sift (canonical m) (take count l)))) ≤ length xs = omega (arith, few, s .room) in
-        let q = d .count ∙ size-fits (length xs) (gather (map (literalPart m) (sift (canonical m) (take count l)))) f in
-        (record { count = q; words = d .words f }, omega (arith, few, q))
+        let f : length (partsOf m (take count l)) ≤ length xs = omega (arith, few, s .room) in
+        let q = d .count ∙ size-fits (length xs) (partsOf m (take count l)) f in
+        record { count = q; words = d .words f; few = omega (arith, few, q) }
 
 -- ---- the list written
 
@@ -165,23 +170,19 @@ module _ (ws : List ℕ) (count : ℕ) (xs : List ℕ) where
               ∙ ap (λ (i : ℕ). take i (take count ws) ++ drop i xs) (sym (add-one p));
         }
 
-    pub writing-full : p < count → p ≡ length ys → (p ≡ min count (length xs)) × (ys ≡ overwrite xs (take count ws))
+    pub writing-full : p < count → p ≡ length ys → ys ≡ overwrite xs (take count ws)
     unfolding overwrite
     writing-full h e =
-        let k : p ≡ length xs = e ∙ s .long in (
-          omega arith,
-          s .whole ∙ ap₂ (λ (u v : List ℕ). u ++ v) (ap (λ (i : ℕ). take i (take count ws)) k)
-              (drop-of-length-le xs {i = p} (omega arith) ∙ sym (drop-of-length-le xs {i = length (take count ws)} (omega (arith, len)))),
-        )
+        let k : p ≡ length xs = e ∙ s .long in
+        s .whole ∙ ap₂ (λ (u v : List ℕ). u ++ v) (ap (λ (i : ℕ). take i (take count ws)) k)
+        (drop-of-length-le xs {i = p} (omega arith) ∙ sym (drop-of-length-le xs {i = length (take count ws)} (omega (arith, len))))
 
-    pub writing-done : count ≤ p → (p ≡ min count (length xs)) × (ys ≡ overwrite xs (take count ws))
+    pub writing-done : count ≤ p → ys ≡ overwrite xs (take count ws)
     unfolding overwrite
     writing-done h =
-        let k : p ≡ length (take count ws) = omega (arith, len, s .within) in (
-          omega (arith, s .within, s .room),
-          s .whole ∙ ap₂ (λ (u v : List ℕ). u ++ v)
-              (take-all p (take count ws) (omega arith) ∙ sym (take-all (length xs) (take count ws) (omega (arith, s .room)))) (ap (λ (i : ℕ). drop i xs) k),
-        )
+        let k : p ≡ length (take count ws) = omega (arith, len, s .within) in
+        s .whole ∙ ap₂ (λ (u v : List ℕ). u ++ v)
+        (take-all p (take count ws) (omega arith) ∙ sym (take-all (length xs) (take count ws) (omega (arith, s .room)))) (ap (λ (i : ℕ). drop i xs) k)
 
 pub ruleset collecting = (
   low-is,

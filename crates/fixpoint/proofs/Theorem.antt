@@ -37,7 +37,8 @@ module _ (m : ℕ) (C : List Clause) (below : Each (Below m) C) (fits : vocabula
   pub listing-sound : (I : ℕ) → I ∈ listing m (transformed m (taggedFrom m 0 C)) → (I < 2 ^ m) × StableWord C I
   unfolding listing minimalModels transformed canonical
   listing-sound I i =
-      let k = ⊎-elim (λ j. j) (λ b. absurd b) (in-addAll I (map (literalPart m) (sift (canonical m) (minimals (sift (satisfies (map wordRule (program m P))) (finalStage (map wordRule (program m P))))))) [] i) in
+      let k = ⊎-elim (λ j. j) (λ b. absurd b) (in-addAll I (map (literalPart m)
+      (sift (canonical m) (minimals (sift (satisfies (map wordRule (program m P))) (finalStage (map wordRule (program m P))))))) [] i) in
       let s = map-in (literalPart m) I (sift (canonical m) (minimals (sift (satisfies (map wordRule (program m P))) (finalStage (map wordRule (program m P)))))) k in
       let c = out-sift (canonical m) (minimals (sift (satisfies (map wordRule (program m P))) (finalStage (map wordRule (program m P))))) (s .0) (s .1) in
       let h : I < 2 ^ m = subst (λ z. z < 2 ^ m) (sym (s .2)) (mod-lt (s .0) (pow-pos m)) in (
@@ -53,4 +54,5 @@ module _ (m : ℕ) (C : List Clause) (below : Each (Below m) C) (fits : vocabula
       addAll-in I (map (literalPart m) (sift (canonical m) (minimals (sift (satisfies (map wordRule (program m P))) (finalStage (map wordRule (program m P))))))) []
       (inl (subst (λ z. z ∈ map (literalPart m) (sift (canonical m) (minimals (sift (satisfies (map wordRule (program m P))) (finalStage (map wordRule (program m P))))))) (a .1 .literals)
       (in-map (literalPart m) (a .0) (sift (canonical m) (minimals (sift (satisfies (map wordRule (program m P))) (finalStage (map wordRule (program m P))))))
-      (in-sift (canonical m) (minimals (sift (satisfies (map wordRule (program m P))) (finalStage (map wordRule (program m P))))) (a .0) (minimal-in (program m P) heads (a .0) (a .1 .minimal)) (a .1 .canonical)))))
+      (in-sift (canonical m) (minimals (sift (satisfies (map wordRule (program m P))) (finalStage (map wordRule (program m P))))) (a .0)
+      (minimal-in (program m P) heads (a .0) (a .1 .minimal)) (a .1 .canonical)))))
