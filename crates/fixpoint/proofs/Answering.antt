@@ -2,13 +2,13 @@
 use mathlib.Core.Path.{_≡_, refl, sym, ap, _∙_, subst}
 use mathlib.Core.Logic.{⊎-elim}
 use mathlib.Core.Bool.{Bool, true, false, cond, not}
-use mathlib.Core.List.{List, [], _∷_}
-use Prim.Native.Nat.{ℕ, _+_, _*_, _^_, _≤_, _<_, min}
+use mathlib.Core.List.{List, []}
+use Prim.Native.Nat.{ℕ, _+_, _^_, _≤_, _<_, min}
 use native.Mathlib.Nat.{mod-lt, lt-of-lt-of-le}
 use native.Mathlib.Omega.{arith}
 use borrow.Author.Needs.{needs}
 use borrow.Author.Tests.{le-leb, lt-leb, lt-ltb, le-ltb, not-true, not-false}
-use lib.Dec.{ltb, eqb}
+use lib.Dec.{ltb}
 use lib.Pow.{pow-pos, pow-mono}
 use lib.ListN.{length, take, length-replicate}
 use lib.Seq.{length-take-le}
@@ -115,6 +115,10 @@ module _ (xs ys : List ℕ) (s : ℕ) (e : s ≡ min (length xs) (length ys)) wh
   evened m Q ms out r d = subst (λ (k : ℕ). Answered m Q k ms out r) (first-part ∙ e) d
 
 -- ---- over a valid table
+-- its clauses, as they stand in its three columns
+abbrev columns : Program → List Clause
+columns p = tabulate (clauseAt (p .heads) (p .bodies) (p .nafs)) (p .«clause_count»)
+
 module _ (p : Program) (v : valid p ≡ true) where
   pub names-few : p .«atom_count» ≤ 12
   names-few = valid-names p v .few
@@ -127,7 +131,7 @@ module _ (p : Program) (v : valid p ≡ true) where
   column-fits xs l = omega (arith, clauses-few)
 
   module _ (m : ℕ) (e : m ≡ literalsOf p) where
-    pub counted : (st : ℕ) → st ≡ allStandIns (tabulate (clauseAt (p .heads) (p .bodies) (p .nafs)) (p .«clause_count»)) → m + m + st ≡ vocabulary p
+    pub counted : (st : ℕ) → st ≡ allStandIns (columns p) → m + m + st ≡ vocabulary p
     unfolding vocabulary members clauses rows
     counted st h = omega (arith, e, h)
 
@@ -139,23 +143,23 @@ module _ (p : Program) (v : valid p ≡ true) where
       heads = column-fits (p .heads) hs;
       bodies = column-fits (p .bodies) bs;
       nafs = column-fits (p .nafs) ns;
-      below = subst (λ k. Each (Below k) (tabulate (clauseAt (p .heads) (p .bodies) (p .nafs)) (p .«clause_count»))) (sym e) (valid-below p v);
+      below = subst (λ k. Each (Below k) (columns p)) (sym e) (valid-below p v);
     }
 
     module _ (w : vocabulary p ≤ 64) where
-      pub table-fits : members m (tabulate (clauseAt (p .heads) (p .bodies) (p .nafs)) (p .«clause_count»)) ≤ 64
+      pub table-fits : members m (columns p) ≤ 64
       unfolding vocabulary clauses rows
-      table-fits = subst (λ k. members k (tabulate (clauseAt (p .heads) (p .bodies) (p .nafs)) (p .«clause_count»)) ≤ 64) (sym e) w
+      table-fits = subst (λ k. members k (columns p) ≤ 64) (sym e) w
 
-      short : length (kappaFrom m (m + m) (tabulate (clauseAt (p .heads) (p .bodies) (p .nafs)) (p .«clause_count»))) ≤ 1120
+      short : length (kappaFrom m (m + m) (columns p)) ≤ 1120
       unfolding clauses rows
-      short = program-short m _ (subst (λ k. Each (Below k) (tabulate (clauseAt (p .heads) (p .bodies) (p .nafs)) (p .«clause_count»))) (sym e) (valid-below p v))
+      short = program-short m _ (subst (λ k. Each (Below k) (columns p)) (sym e) (valid-below p v))
           (let l = length-tabulate (clauseAt (p .heads) (p .bodies) (p .nafs)) (p .«clause_count») in omega (arith, clauses-few)) table-fits
 
-      pub table-room : (xs ys : List ℕ) → length xs ≡ 1120 → length ys ≡ 1120 → Room (kappaFrom m (m + m) (tabulate (clauseAt (p .heads) (p .bodies) (p .nafs)) (p .«clause_count»))) xs ys 0
+      pub table-room : (xs ys : List ℕ) → length xs ≡ 1120 → length ys ≡ 1120 → Room (kappaFrom m (m + m) (columns p)) xs ys 0
       table-room xs ys a b = record { heads = omega (arith, short); bodies = omega (arith, short) }
 
-      module _ (xs ys xs′ ys′ : List ℕ) (n : ℕ) (g : Emits (kappaFrom m (m + m) (tabulate (clauseAt (p .heads) (p .bodies) (p .nafs)) (p .«clause_count»))) xs ys 0 xs′ ys′ n) where
+      module _ (xs ys xs′ ys′ : List ℕ) (n : ℕ) (g : Emits (kappaFrom m (m + m) (columns p)) xs ys 0 xs′ ys′ n) where
         pub heads-there : length xs ≡ 1120 → n ≤ length xs′
         heads-there a = omega (arith, short, g .count, g .heads)
 
@@ -163,10 +167,10 @@ module _ (p : Program) (v : valid p ≡ true) where
         bodies-there b = omega (arith, short, g .count, g .bodies)
 
     pub table-answered : (xs ys xs′ ys′ : List ℕ) (n room : ℕ) (ms out : List ℕ) (r : FixpointAnswer)
-        → Emits (kappaFrom m (m + m) (tabulate (clauseAt (p .heads) (p .bodies) (p .nafs)) (p .«clause_count»))) xs ys 0 xs′ ys′ n
+        → Emits (kappaFrom m (m + m) (columns p)) xs ys 0 xs′ ys′ n
         → Answered m (tabulate (ruleAt xs′ ys′) n) room ms out r → Answered (literalsOf p) (transformOf p) room ms out r
     unfolding transformOf clauses rows tabulate upFrom
-    table-answered xs ys xs′ ys′ n room ms out r g d = subst (λ k. Answered k (kappaFrom k (k + k) (tabulate (clauseAt (p .heads) (p .bodies) (p .nafs)) (p .«clause_count»))) room ms out r) e
+    table-answered xs ys xs′ ys′ n room ms out r g d = subst (λ k. Answered k (kappaFrom k (k + k) (columns p)) room ms out r) e
         (subst (λ (Q : List WordRule). Answered m Q room ms out r) (g .rules) d)
 
 -- ---- over any table
@@ -204,42 +208,13 @@ module _ (p : Program) (l₀ w₀ v₀ w v : List ℕ) (b : Bool) (is : b ≡ va
         go true c = record { says = rw c at (g .answer) ∙ rw (t, f, c); lists = rw c at (g .exit) ∙ rw (t, f, c); first-length = lw; second-length = lv }
         go false c = record { says = rw c at (g .answer) ∙ rw (t, f, c); lists = rw c at (g .exit) ∙ rw (t, f, c); first-length = lw; second-length = lv }
 
-pub ruleset answering = (
-  listed-all,
-  listed-some,
-  refused-is,
-  shorter-left,
-  shorter-right,
-  parts-fit,
-  listed-is,
-  small-parts,
-  first-fits,
-  second-fits,
-  refused-crowded,
-  answered,
-  first-there,
-  second-there,
-  one-length,
-  evened,
-  needs,
-)
+pub ruleset evening = (first-there, second-there, one-length, evened)
 
-pub ruleset tables = (
-  names-few,
-  clauses-few,
-  column-fits,
-  counted,
-  table-over,
-  table-fits,
-  table-room,
-  heads-there,
-  bodies-there,
-  table-answered,
-  is-table,
-  few-members,
-  no-table,
-  too-many,
-  fixed,
-  length-replicate,
-  needs,
-)
+pub ruleset listing-laws = (listed-all, listed-some, refused-is, shorter-left, shorter-right, parts-fit, listed-is, small-parts)
+
+-- what `search` is handed over a positive program, and over a table
+pub ruleset answering = (listing-laws, first-fits, second-fits, refused-crowded, answered, evening, needs)
+
+pub ruleset columns-laws = (names-few, clauses-few, column-fits, counted, table-over, table-fits, table-room, heads-there, bodies-there, length-replicate)
+
+pub ruleset tables = (columns-laws, table-answered, is-table, few-members, no-table, too-many, fixed, needs)

@@ -1,5 +1,5 @@
 -- Laws of the literal parts, collected and written. Assumes nothing.
-use Prim.Native.Nat.{ℕ, suc, _+_, _-_, _*_, _/_, _%_, _^_, _≤_, _<_, min}
+use Prim.Native.Nat.{ℕ, suc, _+_, _-_, _*_, _/_, _%_, _^_, _≤_, _<_}
 use borrow.Author.Needs.{needs}
 use lib.Bits.{bitAnd, and-mask}
 use lib.Dec.{eqb, lit<}
@@ -22,7 +22,7 @@ use Rattle.stages.proofs.Minimal.{sift-one, sift-none, sift-short}
 use Rattle.rising.proofs.RisingSets.{nothing-rises}
 use Rattle.stages.proofs.Selecting.{one-more, no-more}
 use Rattle.rising.proofs.Slices.{size-fits}
-use Rattle.rising.specs.RisingSets.{insertInto, addAll, gather}
+use Rattle.rising.specs.RisingSets.{insertInto, addAll}
 use Rattle.rising.specs.Slices.{Put, Sifted}
 
 pub low-is : (w m : ℕ) → m < 64 → bitAnd w (1 * 2 ^ m % 2 ^ 64 - 1) ≡ literalPart m w
@@ -184,22 +184,6 @@ module _ (ws : List ℕ) (count : ℕ) (xs : List ℕ) where
         s .whole ∙ ap₂ (λ (u v : List ℕ). u ++ v)
         (take-all p (take count ws) (omega arith) ∙ sym (take-all (length xs) (take count ws) (omega (arith, s .room)))) (ap (λ (i : ℕ). drop i xs) k)
 
-pub ruleset collecting = (
-  low-is,
-  low-one,
-  canonical-is,
-  collecting-start,
-  collecting-fits,
-  collecting-pre,
-  collecting-long,
-  collecting-skip,
-  collecting-keep,
-  collecting-done,
-  writing-start,
-  writing-small,
-  writing-there,
-  writing-next,
-  writing-full,
-  writing-done,
-  needs,
-)
+pub ruleset parts-laws = (low-is, low-one, canonical-is, collecting-start, collecting-fits, collecting-pre, collecting-long, collecting-skip, collecting-keep, collecting-done)
+
+pub ruleset collecting = (parts-laws, writing-start, writing-small, writing-there, writing-next, writing-full, writing-done, needs)

@@ -178,24 +178,7 @@ module _ (m s head body naf : ℕ) (hs bs : List ℕ) (at : ℕ) where
     pub nots-are : (hs′ bs′ : List ℕ) (r : ℕ) → Emits (rewrittenFrom m s head body naf) hs bs at hs′ bs′ r → Emits (becomes m s (clauseOf head body naf)) hs bs at hs′ bs′ r
     nots-are hs′ bs′ r g = emits-as _ _ hs bs at hs′ bs′ r (sym with-nots) g
 
-pub ruleset clausing = (
-  ones-few,
-  ones-most,
-  ones-fit,
-  ones-some,
-  no-stands,
-  stands-up,
-  stands-are,
-  beliefs-are,
-  head-is,
-  no-stand-ins,
-  counted-stand-ins,
-  a-room,
-  bcd-room,
-  rewritten-is,
-  plain-room,
-  plain-is,
-  nots-take,
-  nots-are,
-  emitting,
-)
+pub ruleset word-laws = (ones-few, ones-most, ones-fit, ones-some, no-stands, stands-up, stands-are, beliefs-are, head-is, no-stand-ins, counted-stand-ins)
+
+-- what `search` is handed in the routines that put out a whole clause
+pub ruleset clausing = (word-laws, a-room, bcd-room, rewritten-is, plain-room, plain-is, nots-take, nots-are, emitting)

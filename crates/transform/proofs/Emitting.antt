@@ -143,36 +143,9 @@ module _ (x : Stand) (head s : ℕ) (hs₀ bs₀ : List ℕ) (at₀ rest p : ℕ
   pub pair-room : (t : ℕ) → (rest ≡ 0 → ⊥) → t ≡ trailingZeros 64 rest → Room (clauseD x (record { literal = t; at = p })) hs bs at
   pair-room t n e = walk-room (clauseD x) head s hs₀ bs₀ at₀ rest p hs bs at w t n e
 
-pub ruleset emitting = (
-  single-is,
-  couple-is,
-  emits-one,
-  room-first,
-  room-then,
-  emits-then,
-  b-there,
-  b-is,
-  c-there,
-  c-is,
-  d-none,
-  d-there,
-  d-is,
-  walk-start,
-  walk-literal,
-  walk-place,
-  walk-step,
-  walk-less,
-  walk-heads,
-  walk-bodies,
-  walk-done,
-  b-room,
-  run-start,
-  run-step,
-  run-room,
-  c-room,
-  c-step,
-  d-room,
-  d-step,
-  pair-room,
-  needs,
-)
+pub ruleset clause-laws = (single-is, couple-is, emits-one, room-first, room-then, emits-then, b-there, b-is, c-there, c-is, d-none, d-there, d-is)
+
+pub ruleset walk-laws = (walk-start, walk-literal, walk-place, walk-step, walk-less, walk-heads, walk-bodies, walk-done)
+
+-- what `search` is handed in the routines that put out (b), (c) and (d)
+pub ruleset emitting = (clause-laws, walk-laws, b-room, run-start, run-step, run-room, c-room, c-step, d-room, d-step, pair-room, needs)
