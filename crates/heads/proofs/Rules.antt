@@ -2,7 +2,8 @@
 use borrow.Author.Needs.{needs}
 use borrow.Author.Tests.{eq-eqb, ne-eqb}
 use Rattle.sets.proofs.Lists.{lacks-start, lacks-hit, lacks-more, lacks-none}
-use Rattle.heads.proofs.Loops.{without-is, part-within, slot-small, low-less, literal-tested, literal-lowest, join-start, join-step, join-done, meet-start, meet-not, meet-one, meet-done}
+use Rattle.rising.proofs.Literals.{low-less}
+use Rattle.heads.proofs.Loops.{without-is, part-within, slot-small, literal-tested, literal-lowest, join-start, join-step, join-done, meet-start, meet-not, meet-one, meet-done}
 use Rattle.heads.proofs.Reaching.{try-end, try-start, try-none, try-hit, try-miss, try-less, try-within, try-whole}
 use Rattle.heads.proofs.Scanning.{barren-missed, barren-not, barren-many, one-not, one-put, scan-barren, scan-one, scan-over, scan-both, scan-all}
 

@@ -17,8 +17,8 @@ use Rattle.sets.proofs.Tests.{T?, not-T-false}
 use Rattle.sets.proofs.Digits.{bit-zero, bits-ext}
 use Rattle.rising.specs.Growing.{Grown}
 use Rattle.rising.specs.RisingSets.{insertInto, addAll}
-use Rattle.rising.specs.Slices.{Put}
-use Rattle.rising.proofs.Growing.{Growing, put-grown, grown-as, grown-held, grow-start, grow-call, grow-done, grow-over}
+use Rattle.rising.specs.Slices.{Inserted}
+use Rattle.rising.proofs.Growing.{Growing, inserted-grown, grown-as, grown-held, grow-start, grow-call, grow-done, grow-over}
 use Rattle.rising.proofs.RisingSets.{addAll-same}
 use Rattle.heads.specs.Heads.{picks, offeredBy, without, between}
 use Rattle.sets.proofs.Branches.{in-or, or-left, or-right, both-in, in-both, from-out, from-in, branches}
@@ -67,7 +67,7 @@ module _ (L xs : List ℕ) (held : ℕ) where
     pub one-not : (b : Bool) → held ≤ length xs → b ≡ anyOf (eqb w) L → b ≡ false → Grown (length xs) (addAll (sift (eqb w) L) (take held xs)) xs held
     one-not b h e f = grown-none (eqb w) h (sift-none (eqb w) L (none-each (eqb w) L (sym e ∙ f)))
 
-    pub one-put : (b : Bool) (out : List ℕ) (r : ℕ) → Rising (take held xs) → b ≡ anyOf (eqb w) L → b ≡ true → Put xs out (insertInto w (take held xs)) r
+    pub one-put : (b : Bool) (out : List ℕ) (r : ℕ) → Rising (take held xs) → b ≡ anyOf (eqb w) L → b ≡ true → Inserted xs out (insertInto w (take held xs)) r
         → Grown (length xs) (addAll (sift (eqb w) L) (take held xs)) out r
     unfolding addAll
     one-put b out r rise e t p = grown-as (length xs) (insertInto w (take held xs)) (addAll (sift (eqb w) L) (take held xs)) out r
@@ -76,7 +76,7 @@ module _ (L xs : List ℕ) (held : ℕ) where
         (λ z m. ⊎-elim
         (λ q. let s = some-in (eqb w) L (sym e ∙ t) in subst (λ (y : ℕ). y ∈ sift (eqb w) L) (sym (eqb-true w (s .0) (s .2)) ∙ sym q) (sift-in (eqb w) L (s .0) (s .1) (s .2)))
         (λ q. absurd q) m))
-        (put-grown xs out (insertInto w (take held xs)) r p)
+        (inserted-grown xs out (insertInto w (take held xs)) r p)
 
     module _ (free : ℕ) where
       pub scan-barren : (b : Bool) → held ≤ length xs → (b ≡ true → sift (between free w) L ≡ []) → b ≡ true → Grown (length xs) (addAll (sift (between free w) L) (take held xs)) xs held

@@ -15,7 +15,7 @@ use Rattle.sets.proofs.Lists.{onward-step, onward-done}
 use Rattle.sets.specs.Words.{inside, put}
 use Rattle.sets.proofs.Tests.{both-true}
 use Rattle.rising.proofs.Growing.{Growing, grown-as, grow-start, grow-call, grow-done, grow-over}
-use Rattle.rising.proofs.Literals.{low-lt, literals-low, literals-none, trailing-lt}
+use Rattle.rising.proofs.Literals.{low-less, literals-low, literals-none, lowest-small}
 use Rattle.rising.specs.Growing.{Grown}
 use Rattle.rising.specs.Literals.{literals, low}
 use Rattle.rising.specs.RisingSets.{addAll}
@@ -128,10 +128,7 @@ module _ (hs bs : List ℕ) (count i k j : ℕ) (ws : List ℕ) (n : ℕ) (xs : 
     choice-long = c .grows .long
 
     pub choice-literal : (t : ℕ) → (rest ≡ 0 → ⊥) → t ≡ trailingZeros 64 rest → t < 64
-    choice-literal t ne e = let h = trailing-lt 64 rest (omega (arith, ne)) (c .small) in omega arith
-
-    pub choice-less : (rest ≡ 0 → ⊥) → low rest < rest
-    choice-less ne = low-lt rest (omega (arith, ne))
+    choice-literal t ne e = lowest-small rest t ne (c .small) e
 
     pub choice-step : (t v r : ℕ) (out us : List ℕ) → (rest ≡ 0 → ⊥) → m ≤ length ys → t ≡ trailingZeros 64 rest → v ≡ put t j
         → Chosen (length ys) (addAll (whole hs bs count i (k + 1) v (tabulate (headAt vs) n)) (take m ys)) out r n vs us → Choice hs bs count i k j ws n xs held us out r (low rest)
@@ -139,7 +136,7 @@ module _ (hs bs : List ℕ) (count i k j : ℕ) (ws : List ℕ) (n : ℕ) (xs : 
     choice-step t v r out us ne h e p g =
         let A : tabulate (headAt vs) n ≡ tabulate (headAt ws) n = heads-same ws n vs (c .same) in
         record {
-          small = omega (arith, low-lt rest (omega (arith, ne)), c .small);
+          small = omega (arith, low-less rest ne, c .small);
           same = λ q o. g .same q o ∙ c .same q o;
           long = g .long ∙ c .long;
           grows = grow-call (length xs) (addAll (whole hs bs count i k j (tabulate (headAt ws) n)) (take held xs)) (whole hs bs count i (k + 1) v (tabulate (headAt vs) n))
@@ -151,4 +148,4 @@ module _ (hs bs : List ℕ) (count i k j : ℕ) (ws : List ℕ) (n : ℕ) (xs : 
               (omega (arith, c .grows .long)) (g .grown);
         }
 
-pub ruleset choosing = (aside-room, at-end, passed, put-aside, choice-start, choice-over, choice-done, choice-visit, choice-long, choice-literal, choice-less, choice-step, not-true, not-false, needs)
+pub ruleset choosing = (aside-room, at-end, passed, put-aside, choice-start, choice-over, choice-done, choice-visit, choice-long, choice-literal, low-less, choice-step, not-true, not-false, needs)

@@ -6,7 +6,7 @@ ghost use lib.Count.{trailingZeros};
 ghost use Rattle.sets.specs.Lists.{Rising};
 ghost use Rattle.sets.specs.Words.{inside, put};
 ghost use Rattle.rising.specs.RisingSets.{insertInto, rank};
-ghost use Rattle.rising.specs.Slices.{opened, standsAt, Put};
+ghost use Rattle.rising.specs.Slices.{opened, standsAt, Inserted};
 
 // The place of `x` in the rising first `count` places: how many of them are below it.
 fn place(set: &[u64], count: usize, x: u64) -> usize
@@ -52,7 +52,7 @@ fn stands(set: &[u64], count: usize, at: usize, x: u64) -> bool
 // Puts `x` into the set in the first `count` places; gives the number of members, or one more than there are places where it would be one too many.
 pub fn insert(set: &mut [u64], count: usize, x: u64) -> usize
     requires { ⌜ (count ≤ length (now set)) × Rising (take count (now set)) ⌝ }
-    ensures { λ r. ⌜ Put (now (set .entry)) (now (set .exit)) (insertInto x (take count (now (set .entry)))) r ⌝ }
+    ensures { λ r. ⌜ Inserted (now (set .entry)) (now (set .exit)) (insertInto x (take count (now (set .entry)))) r ⌝ }
 {
     let at = place(set, count, x);
     if stands(set, count, at, x) {
