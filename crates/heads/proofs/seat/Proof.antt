@@ -11,4 +11,6 @@ abbrev μ-loop : tie.MeasureT-loop
 μ-loop wide n s t server₀ first from₀ x₀ left₀ server from x left = left
 
 pub seat-spec : {M : Type 1} → statement M
-seat-spec = tie.close (tie.spec Inv-loop μ-loop (λ c. search words) (λ c. search words) (λ c. search words) (λ c. search words) (λ c. search words) (λ c. search words) (λ c. search words) (λ c. search words))
+seat-spec = tie.close (tie.spec
+    Inv-loop μ-loop (λ c. search words) (λ c. search words) (λ c. search words) (λ c. search words) (λ c. search words) (λ c. search words) (λ c. search words)
+    (λ c. search words))

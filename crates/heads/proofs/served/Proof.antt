@@ -10,4 +10,6 @@ abbrev μ-loop : tie.MeasureT-loop
 μ-loop s k server rest₀ rest = rest
 
 pub served-spec : {M : Type 1} → statement M
-served-spec = tie.close (tie.spec Inv-loop μ-loop (λ c. search words) (λ c. search words) (λ c. search words) (λ c. search words) (λ c. search words) (λ c. search words) (λ c. search words) (λ c. search words) (λ c. search words))
+served-spec = tie.close (tie.spec
+    Inv-loop μ-loop (λ c. search words) (λ c. search words) (λ c. search words) (λ c. search words) (λ c. search words) (λ c. search words) (λ c. search words)
+    (λ c. search words) (λ c. search words))

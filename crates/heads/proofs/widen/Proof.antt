@@ -11,4 +11,7 @@ abbrev μ-loop : tie.MeasureT-loop
 μ-loop wide n s first x server₀ from₀ y₀ k₀ server from y k = n - k
 
 pub widen-spec : {M : Type 1} → statement M
-widen-spec = tie.close (tie.spec Inv-loop μ-loop (λ c. search words) (λ c. search words) (λ c. search words) (λ c. search words) (λ c. search words) (λ c. search words) (λ c. search words) (λ c. search words) (λ c. search words) (λ c. search words) (λ c. search words) (λ c. search words) (λ c. search words) (λ c. search words) (λ c. search words) (λ c. search words) (λ c. search words) (λ c. search words) (λ c. search words))
+widen-spec = tie.close (tie.spec
+    Inv-loop μ-loop (λ c. search words) (λ c. search words) (λ c. search words) (λ c. search words) (λ c. search words) (λ c. search words) (λ c. search words)
+    (λ c. search words) (λ c. search words) (λ c. search words) (λ c. search words) (λ c. search words) (λ c. search words) (λ c. search words)
+    (λ c. search words) (λ c. search words) (λ c. search words) (λ c. search words) (λ c. search words))

@@ -16,4 +16,6 @@ returns-2 c =
     minimals-are _ _ _ _ _ _ _ _ _ (s .settle .ensures) (i .if1 .left) (k .keep-models .ensures) (k .keep-models .kept .1 .1 .1 .1 .1 .0) (m .keep-minimal .ensures) (m .keep-minimal .kept .1 .1 .0)
 
 pub minimal-from-spec : {M : Type 1} → statement M
-minimal-from-spec = tie.close (tie.spec (λ c. search rules) (λ c. search rules) (λ c. search rules) returns (λ c. search rules) (λ c. search rules) (λ c. search rules) (λ c. search rules) returns-2)
+minimal-from-spec = tie.close (tie.spec
+    (λ c. search rules) (λ c. search rules) (λ c. search rules) returns (λ c. search rules) (λ c. search rules) (λ c. search rules) (λ c. search rules)
+    returns-2)

@@ -12,4 +12,6 @@ abbrev μ-loop : tie.MeasureT-loop
 μ-loop a m b n p₀ p = n - p
 
 pub same-words-spec : {M : Type 1} → statement M
-same-words-spec = tie.close (tie.spec Inv-loop μ-loop (λ c. search settling) (λ c. search settling) (λ c. search settling) (λ c. search settling) (λ c. search settling) (λ c. search settling) (λ c. search settling) (λ c. search settling) (λ c. search settling) (λ c. search settling) (λ c. search settling))
+same-words-spec = tie.close (tie.spec
+    Inv-loop μ-loop (λ c. search settling) (λ c. search settling) (λ c. search settling) (λ c. search settling) (λ c. search settling) (λ c. search settling)
+    (λ c. search settling) (λ c. search settling) (λ c. search settling) (λ c. search settling) (λ c. search settling))
