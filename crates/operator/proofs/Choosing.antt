@@ -46,27 +46,27 @@ aside-long ws n h e = length-set ws n h ∙ e
 
 -- ---- the literals in `rest` are still to be followed, each into the heads set aside and those of the clauses behind
 
-pub record Following (f : ℕ → WordRule) (count i k j : ℕ) (ws : List ℕ) (n : ℕ) (xs : List ℕ) (held : ℕ) (vs ys : List ℕ) (m rest : ℕ) : Type 0 where
+pub record Following (f : ℕ → WordRule) (count i k j : ℕ) (ws : List ℕ) (n : ℕ) (xs : List ℕ) (members : ℕ) (vs ys : List ℕ) (m rest : ℕ) : Type 0 where
   pub small : rest < 2 ^ 64
   pub same : (p : ℕ) → p < n → getD vs p 0 ≡ getD ws p 0
   pub long : length vs ≡ length ws
-  pub grows : Growing (length xs) (addAll (picks (tabulate (headAt ws) n ++ fired i (onward f count k)) j) (take held xs))
+  pub grows : Growing (length xs) (addAll (picks (tabulate (headAt ws) n ++ fired i (onward f count k)) j) (take members xs))
       (flatMap (λ t. picks (tabulate (headAt ws) n ++ fired i (onward f count (k + 1))) (put t j)) (literals rest)) ys m
 
 -- ---- the clauses f k, .., f (count - 1), with the first n heads of ws set aside: one law for each way to go on
 
-module _ (f : ℕ → WordRule) (count i k j : ℕ) (ws : List ℕ) (n : ℕ) (xs : List ℕ) (held : ℕ) where
+module _ (f : ℕ → WordRule) (count i k j : ℕ) (ws : List ℕ) (n : ℕ) (xs : List ℕ) (members : ℕ) where
   abbrev all : List ℕ
-  all = addAll (picks (tabulate (headAt ws) n ++ fired i (onward f count k)) j) (take held xs)
+  all = addAll (picks (tabulate (headAt ws) n ++ fired i (onward f count k)) j) (take members xs)
 
   abbrev after : ℕ → List ℕ
   after t = picks (tabulate (headAt ws) n ++ fired i (onward f count (k + 1))) (put t j)
 
-  pub at-end : (out : List ℕ) (r : ℕ) → k ≡ count → Grown (length xs) (addAll (picks (tabulate (headAt ws) n) j) (take held xs)) out r
-      → Chosen (length xs) (addAll (picks (tabulate (headAt ws) n ++ fired i (onward f count k)) j) (take held xs)) out r n ws ws
+  pub at-end : (out : List ℕ) (r : ℕ) → k ≡ count → Grown (length xs) (addAll (picks (tabulate (headAt ws) n) j) (take members xs)) out r
+      → Chosen (length xs) (addAll (picks (tabulate (headAt ws) n ++ fired i (onward f count k)) j) (take members xs)) out r n ws ws
   unfolding fired
   at-end out r e g = record {
-    grown = subst (λ (H : List ℕ). Grown (length xs) (addAll (picks H j) (take held xs)) out r)
+    grown = subst (λ (H : List ℕ). Grown (length xs) (addAll (picks H j) (take members xs)) out r)
         (sym (ap (λ (Q : List WordRule). tabulate (headAt ws) n ++ fired i Q) (onward-done f count k (omega arith)) ∙ append-nil (tabulate (headAt ws) n))) g;
     same = λ p l. refl;
     long = refl;
@@ -81,17 +81,17 @@ module _ (f : ℕ → WordRule) (count i k j : ℕ) (ws : List ℕ) (n : ℕ) (x
 
     -- the clause does not fire
     pub passed : (out : List ℕ) (r : ℕ) (vs : List ℕ) → inside (f k .body) i ≡ false
-        → Chosen (length xs) (addAll (picks (tabulate (headAt ws) n ++ fired i (onward f count (k + 1))) j) (take held xs)) out r n ws vs
-        → Chosen (length xs) (addAll (picks (tabulate (headAt ws) n ++ fired i (onward f count k)) j) (take held xs)) out r n ws vs
-    passed out r vs q g = subst (λ (F : List ℕ). Chosen (length xs) (addAll (picks (tabulate (headAt ws) n ++ F) j) (take held xs)) out r n ws vs)
+        → Chosen (length xs) (addAll (picks (tabulate (headAt ws) n ++ fired i (onward f count (k + 1))) j) (take members xs)) out r n ws vs
+        → Chosen (length xs) (addAll (picks (tabulate (headAt ws) n ++ fired i (onward f count k)) j) (take members xs)) out r n ws vs
+    passed out r vs q g = subst (λ (F : List ℕ). Chosen (length xs) (addAll (picks (tabulate (headAt ws) n ++ F) j) (take members xs)) out r n ws vs)
         (sym (ap (fired i) one ∙ fired-quiet i (f k) (onward f count (k + 1)) q)) g
 
     -- its head is set aside
     pub put-aside : (out : List ℕ) (r : ℕ) (vs : List ℕ) → inside (f k .body) i ≡ true → length ws ≡ 64 → n < 64
-        → Chosen (length xs) (addAll (picks (tabulate (headAt (set ws n (f k .head))) (n + 1) ++ fired i (onward f count (k + 1))) j) (take held xs)) out r (n + 1) (set ws n (f k .head)) vs
-        → Chosen (length xs) (addAll (picks (tabulate (headAt ws) n ++ fired i (onward f count k)) j) (take held xs)) out r n ws vs
+        → Chosen (length xs) (addAll (picks (tabulate (headAt (set ws n (f k .head))) (n + 1) ++ fired i (onward f count (k + 1))) j) (take members xs)) out r (n + 1) (set ws n (f k .head)) vs
+        → Chosen (length xs) (addAll (picks (tabulate (headAt ws) n ++ fired i (onward f count k)) j) (take members xs)) out r n ws vs
     put-aside out r vs t w l g = record {
-      grown = subst (λ (H : List ℕ). Grown (length xs) (addAll (picks H j) (take held xs)) out r)
+      grown = subst (λ (H : List ℕ). Grown (length xs) (addAll (picks H j) (take members xs)) out r)
           (ap (λ (A : List ℕ). A ++ fired i (onward f count (k + 1))) (heads-more ws n (f k .head) (omega arith))
           ∙ append-assoc (tabulate (headAt ws) n) (f k .head ∷ []) (fired i (onward f count (k + 1))) ∙ ap (λ (F : List ℕ). tabulate (headAt ws) n ++ F) (sym (fires t))) (g .grown);
       same = λ p q. g .same p (omega arith) ∙ getD-set-other ws n p (f k .head) 0 (λ e. omega (arith, e));
@@ -99,22 +99,22 @@ module _ (f : ℕ → WordRule) (count i k j : ℕ) (ws : List ℕ) (n : ℕ) (x
     }
 
     -- its literals are followed
-    pub follow-start : (h : ℕ) → h ≡ f k .head → inside (f k .body) i ≡ true → held ≤ length xs → Rising (take held xs) → Fits w64 h → Following f count i k j ws n xs held ws xs held h
+    pub follow-start : (h : ℕ) → h ≡ f k .head → inside (f k .body) i ≡ true → members ≤ length xs → Rising (take members xs) → Fits w64 h → Following f count i k j ws n xs members ws xs members h
     follow-start h e t fits rise small = record {
       small = small .fits;
       same = λ p l. refl;
       long = refl;
-      grows = subst (λ (l : List ℕ). Growing (length xs) l (flatMap after (literals h)) xs held)
-          (sym (ap (λ (F : List ℕ). addAll (picks (tabulate (headAt ws) n ++ F) j) (take held xs)) (fires t)
-          ∙ head-first (tabulate (headAt ws) n) (fired i (onward f count (k + 1))) (f k .head) j (take held xs) rise ∙ ap (λ (x : ℕ). addAll (flatMap after (literals x)) (take held xs)) (sym e)))
-          (grow-start xs (flatMap after (literals h)) held fits rise);
+      grows = subst (λ (l : List ℕ). Growing (length xs) l (flatMap after (literals h)) xs members)
+          (sym (ap (λ (F : List ℕ). addAll (picks (tabulate (headAt ws) n ++ F) j) (take members xs)) (fires t)
+          ∙ head-first (tabulate (headAt ws) n) (fired i (onward f count (k + 1))) (f k .head) j (take members xs) rise ∙ ap (λ (x : ℕ). addAll (flatMap after (literals x)) (take members xs)) (sym e)))
+          (grow-start xs (flatMap after (literals h)) members fits rise);
     }
 
-  module _ (vs ys : List ℕ) (m rest : ℕ) (c : Following f count i k j ws n xs held vs ys m rest) where
-    pub follow-over : length ys < m → Chosen (length xs) (addAll (picks (tabulate (headAt ws) n ++ fired i (onward f count k)) j) (take held xs)) ys m n ws vs
+  module _ (vs ys : List ℕ) (m rest : ℕ) (c : Following f count i k j ws n xs members vs ys m rest) where
+    pub follow-over : length ys < m → Chosen (length xs) (addAll (picks (tabulate (headAt ws) n ++ fired i (onward f count k)) j) (take members xs)) ys m n ws vs
     follow-over h = record { grown = grow-over (length xs) all (flatMap after (literals rest)) ys m (c .grows) (omega (arith, c .grows .long)); same = c .same; long = c .long }
 
-    pub follow-done : rest ≡ 0 → Chosen (length xs) (addAll (picks (tabulate (headAt ws) n ++ fired i (onward f count k)) j) (take held xs)) ys m n ws vs
+    pub follow-done : rest ≡ 0 → Chosen (length xs) (addAll (picks (tabulate (headAt ws) n ++ fired i (onward f count k)) j) (take members xs)) ys m n ws vs
     unfolding flatMap
     follow-done e = record {
       grown = grow-done (length xs) all (flatMap after (literals rest)) ys m (c .grows) (ap (flatMap after) (ap literals e ∙ literals-none));
@@ -136,7 +136,7 @@ module _ (f : ℕ → WordRule) (count i k j : ℕ) (ws : List ℕ) (n : ℕ) (x
 
     pub follow-step : (t v r : ℕ) (out us : List ℕ) → (rest ≡ 0 → ⊥) → m ≤ length ys → t ≡ trailingZeros 64 rest → v ≡ put t j
         → Chosen (length ys) (addAll (picks (tabulate (headAt vs) n ++ fired i (onward f count (k + 1))) v) (take m ys)) out r n vs us
-        → Following f count i k j ws n xs held us out r (low rest)
+        → Following f count i k j ws n xs members us out r (low rest)
     unfolding flatMap
     follow-step t v r out us ne h e p g =
         let put-in : picks (tabulate (headAt vs) n ++ fired i (onward f count (k + 1))) v ≡ after (trailingZeros 64 rest) =

@@ -27,10 +27,10 @@ abbrev below : ℕ → In 3 choose-kinds.ps
 below t = and 3 choose-kinds.ps (falls 3 choose-kinds.ps _<_ μ-choose t) choose.Pre
 
 abbrev Inv-loop : lts.InvT-loop
-Inv-loop heads bodies count i k j wide₀ n set₀ held head m₀ rest₀ wide set m rest = Following (ruleAt heads bodies) count i k j wide₀ n set₀ held wide set m rest
+Inv-loop heads bodies count i k j wide₀ n set₀ members head m₀ rest₀ wide set m rest = Following (ruleAt heads bodies) count i k j wide₀ n set₀ members wide set m rest
 
 abbrev μ-loop : lts.MeasureT-loop
-μ-loop heads bodies count i k j wide₀ n set₀ held head m₀ rest₀ wide set m rest = rest
+μ-loop heads bodies count i k j wide₀ n set₀ members head m₀ rest₀ wide set m rest = rest
 
 pub +choose-spec : {M : Type 1} → statement M
 +choose-spec = close μ-choose λ t. lts.spec (
