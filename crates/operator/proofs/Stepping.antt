@@ -22,10 +22,6 @@ use Rattle.rising.specs.Growing.{Grown}
 use Rattle.operator.specs.Operator.{WordRule, ruleAt, choices, fired, bars, barred, next, Chosen}
 use Rattle.rising.specs.RisingSets.{addAll}
 
-pub bars-is : (i head body : ℕ) → (eqb head 0 && eqb (bitAnd body i) body) ≡ bars i (record { head = head; body = body })
-unfolding bars
-bars-is i head body = refl
-
 -- ---- what one member gives
 
 module _ (hs bs : List ℕ) (count i : ℕ) (xs : List ℕ) (members : ℕ) where
@@ -91,4 +87,4 @@ module _ (Q : List WordRule) (now : List ℕ) (members : ℕ) (xs : List ℕ) wh
               (omega (arith, s .grows .long)) g;
         }
 
-pub ruleset stepping = (bars-is, lacks-start, lacks-hit, lacks-more, lacks-none, via, gives-none, gives-all, nothing-rises, step-start, step-over, step-done, step-long, step-rises, step-next, needs)
+pub ruleset stepping = (lacks-start, lacks-hit, lacks-more, lacks-none, via, gives-none, gives-all, nothing-rises, step-start, step-over, step-done, step-long, step-rises, step-next, needs)

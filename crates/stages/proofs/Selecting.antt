@@ -20,16 +20,6 @@ use Rattle.stages.specs.Minimal.{violates, satisfies, properIn, leastIn,
 use Rattle.stages.proofs.Run.{crowded-start, reached-start}
 use Rattle.stages.proofs.Minimal.{any-none, any-one, sift-one, sift-none}
 
--- ---- the tests
-
-pub violates-is : (w head body : ℕ) → (eqb (bitAnd body w) body && eqb (bitAnd head w) 0) ≡ violates w (record { head = head; body = body })
-unfolding violates
-violates-is w head body = refl
-
-pub properly-is : (v w : ℕ) → (eqb (bitAnd v w) v && not (eqb v w)) ≡ properIn w v
-unfolding properIn
-properly-is v w = refl
-
 -- ---- a list, one member more
 
 pub one-more : (l : List ℕ) (count p : ℕ) → count ≤ length l → p < count → drop p (take count l) ≡ getD l p 0 ∷ drop (p + 1) (take count l)
@@ -104,14 +94,6 @@ module _ (t : ℕ → Bool) (l : List ℕ) (members : ℕ) (xs : List ℕ) where
         sym (ap (λ (k : List ℕ). take n ys ++ k) (ap (sift t) (no-more l members p (s .inside) h) ∙ sift-none t) ∙ append-nil (take n ys)) ∙ s .whole in
         record { count = sym (length-take-le n ys (omega (arith, s .low, s .room, s .within))) ∙ ap length w; words = w; few = omega (arith, s .low, s .within) }
 
-pub satisfies-is : (Q : List WordRule) (w : ℕ) {b : Bool} → b ≡ anyOf (violates w) Q → not b ≡ satisfies Q w
-unfolding satisfies
-satisfies-is Q w e = ap not e
-
-pub least-in-is : (l : List ℕ) (w : ℕ) {b : Bool} → b ≡ anyOf (properIn w) l → not b ≡ leastIn l w
-unfolding leastIn
-least-in-is l w e = ap not e
-
 -- ---- the minimal models of the stage that ends the run
 module _ (Q : List WordRule) (room : ℕ) where
   -- some stage was too large
@@ -170,10 +152,6 @@ begins Q a b h l =
     }
 
 pub ruleset selecting = (
-  violates-is,
-  properly-is,
-  satisfies-is,
-  least-in-is,
   lacks-start,
   lacks-hit,
   lacks-more,
