@@ -19,7 +19,7 @@ use Rattle.program.specs.Clauses.{Clause, Below, clauseAt, rows, clauses}
 use Rattle.program.specs.Valid.{valid}
 use Rattle.program.specs.Refusals.{lowest}
 use Rattle.program.proofs.Validity.{valid-names, valid-clauses, valid-below}
-use Rattle.rising.specs.Slices.{Sifted}
+use Rattle.rising.specs.Slices.{Prefix}
 use Rattle.operator.specs.Operator.{WordRule, ruleAt}
 use Rattle.stages.specs.Run.{crowded}
 use Rattle.stages.specs.Minimal.{minimalModels, Minimals}
@@ -32,6 +32,7 @@ use Rattle.fixpoint.specs.declared.FixpointAnswer.{FixpointAnswer}
 use Rattle.fixpoint.specs.Overwriting.{overwrite}
 use Rattle.fixpoint.specs.Answer.{listed, refused, Listed, runAnswer, runExit, Answered, literalsOf, vocabulary, transformOf, found, roomOf, refusal, answerOf}
 use Rattle.fixpoint.specs.Answer.{exitOf, Fixes}
+use Rattle.fixpoint.proofs.Collecting.{parts-few}
 use Rattle.fixpoint.proofs.Size.{program-short}
 
 -- ---- the answer's two counts
@@ -54,19 +55,18 @@ pub shorter-right : (x y : ℕ) → y ≤ x → y ≡ min x y
 shorter-right x y h = omega arith
 
 -- ---- the literal parts, listed
-module _ (l out : List ℕ) (count k : ℕ) (g : Sifted l count out k) where
-  pub parts-fit : (xs : List ℕ) → count ≤ length xs → length out ≡ length xs → k ≤ length out
-  parts-fit xs h e = omega (arith, g .few)
-
-  pub listed-is : (xs xs′ : List ℕ) (r : FixpointAnswer) → r ≡ listed k (length xs) → xs′ ≡ overwrite xs (take k out) → Listed l xs xs′ r
-  listed-is xs xs′ r a e = record { answer = a ∙ ap (λ (n : ℕ). listed n (length xs)) (g .count); exit = e ∙ ap (overwrite xs) (g .words) }
+pub parts-fit : (m : ℕ) (l out xs : List ℕ) (count k : ℕ) → Prefix (partsOf m (take count l)) out k → count ≤ length xs → length out ≡ length xs → k ≤ length out
+parts-fit m l out xs count k g h e = omega (arith, parts-few m l count, g .count)
 
 -- they are words of the list
-pub small-parts : (m : ℕ) (l out : List ℕ) (count k : ℕ) → Sifted (partsOf m l) count out k → m ≤ 32 → Each (λ x. x < 2 ^ 32) (take k out)
-small-parts m l out count k g h x i = ⊎-elim
+pub small-parts : (m : ℕ) (l out : List ℕ) (k : ℕ) → Prefix (partsOf m l) out k → m ≤ 32 → Each (λ x. x < 2 ^ 32) (take k out)
+small-parts m l out k g h x i = ⊎-elim
     (λ j. let s = map-in (literalPart m) x (sift (canonical m) l) j in
     lt-of-lt-of-le (subst (λ z. z < 2 ^ m) (sym (s .2)) (mod-lt (s .0) (pow-pos m))) (pow-mono h))
     (λ b. absurd b) (in-addAll x _ [] (subst (λ (z : List ℕ). x ∈ z) (g .words) i))
+
+pub listed-is : (l out : List ℕ) (k : ℕ) (xs xs′ : List ℕ) (r : FixpointAnswer) → Prefix l out k → r ≡ listed k (length xs) → xs′ ≡ overwrite xs (take k out) → Listed l xs xs′ r
+listed-is l out k xs xs′ r g a e = record { answer = a ∙ ap (λ (n : ℕ). listed n (length xs)) (g .count); exit = e ∙ ap (overwrite xs) (g .words) }
 
 -- ---- over a positive program, with working slices of one length
 module _ (Q : List WordRule) (room n : ℕ) (first second : List ℕ) (d : Minimals Q room n first second) where

@@ -3,7 +3,7 @@ use Prim.Native.Nat.{ℕ, suc, _+_, _-_, _*_, _/_, _%_, _^_, _≤_, _<_}
 use borrow.Author.Needs.{needs}
 use lib.Bits.{bitAnd, and-mask}
 use lib.Dec.{eqb, lit<}
-use lib.ListN.{length, getD, take, drop, set, length-set, drop-of-length-le, length-map}
+use lib.ListN.{length, getD, take, drop, set, length-set, drop-of-length-le, length-map, length-take}
 use lib.Pow.{shl-exact, pow-pos}
 use lib.Seq.{drop-cons, length-take-le, getD-take, take-all, take-suc, set-at}
 use mathlib.Core.Bool.{Bool, true, false, cond}
@@ -17,13 +17,13 @@ use Rattle.fixpoint.specs.Overwriting.{overwrite}
 use Rattle.sets.proofs.Lists.{at-in}
 use Rattle.sets.specs.Lists.{Each, sift, Rising}
 use Rattle.sets.specs.Words.{inside}
-use Rattle.rising.proofs.Growing.{Growing, put-grown, grow-start, grow-call, grow-done}
+use Rattle.rising.proofs.Growing.{Growing, inserted-grown, grow-start, grow-call, grow-done}
 use Rattle.stages.proofs.Minimal.{sift-one, sift-none, sift-short}
 use Rattle.rising.proofs.RisingSets.{nothing-rises}
 use Rattle.stages.proofs.Selecting.{one-more, no-more}
 use Rattle.rising.proofs.Slices.{size-fits}
 use Rattle.rising.specs.RisingSets.{insertInto, addAll}
-use Rattle.rising.specs.Slices.{Put, Sifted}
+use Rattle.rising.specs.Slices.{Inserted, Prefix}
 
 pub low-is : (w m : ℕ) → m < 64 → bitAnd w (1 * 2 ^ m % 2 ^ 64 - 1) ≡ literalPart m w
 low-is w m h = ap (λ (x : ℕ). bitAnd w (x - 1)) (shl-exact 1 m 64 (lit< tt) (omega arith) ∙ one-mul (2 ^ m)) ∙ and-mask w m
@@ -52,6 +52,13 @@ unfolding addAll
 add-shorter [] l = omega arith
 add-shorter (x ∷ xs) l = let a = add-shorter xs (insertInto x l) in let b = insert-shorter x l in omega arith
 
+pub parts-few : (m : ℕ) (l : List ℕ) (count : ℕ) → length (partsOf m (take count l)) ≤ count
+parts-few m l count =
+    let a = add-shorter (map (literalPart m) (sift (canonical m) (take count l))) [] in
+    let b = length-map (sift (canonical m) (take count l)) (literalPart m) in
+    let d = sift-short (canonical m) (take count l) in
+    omega (arith, length-take count l)
+
 pub record Collecting (m : ℕ) (l : List ℕ) (count : ℕ) (xs ys : List ℕ) (n p : ℕ) : Type 0 where
   pub inside : count ≤ length l
   pub room : count ≤ length xs
@@ -71,20 +78,12 @@ module _ (m : ℕ) (l : List ℕ) (count : ℕ) (xs : List ℕ) where
   }
 
   module _ (ys : List ℕ) (n p : ℕ) (s : Collecting m l count xs ys n p) where
-    few : length (partsOf m (take count l)) ≤ count
-    few =
-        let a = add-shorter (map (literalPart m) (sift (canonical m) (take count l))) [] in
-        let b = length-map (sift (canonical m) (take count l)) (literalPart m) in
-        let d = sift-short (canonical m) (take count l) in
-        let e = length-take-le count l (s .inside) in
-        omega arith
-
     pub collecting-fits : n ≤ length ys
     collecting-fits = go (native.Mathlib.Decide.decLe n (length xs))
       where
         go : Dec (n ≤ length xs) → n ≤ length ys
         go (yes h) = omega (arith, s .grows .long)
-        go (no h) = absurd (let o = s .grows .over (omega (arith, h)) in omega (arith, few, s .room))
+        go (no h) = absurd (let o = s .grows .over (omega (arith, h)) in omega (arith, parts-few m l count, s .room))
 
     pub collecting-pre : (n ≤ length ys) × Rising (take n ys)
     collecting-pre = (collecting-fits, s .grows .rises (omega (arith, collecting-fits, s .grows .long)))
@@ -106,7 +105,7 @@ module _ (m : ℕ) (l : List ℕ) (count : ℕ) (xs : List ℕ) where
           (part h ∙ ap (λ (x : Bool). cond x (getD l p 0 ∷ sift (canonical m) (drop (p + 1) (take count l))) (sift (canonical m) (drop (p + 1) (take count l)))) (sym e ∙ y)) (s .grows);
     }
 
-    pub collecting-keep : (b : Bool) (x r : ℕ) (out : List ℕ) → p < count → b ≡ canonical m (getD l p 0) → b ≡ true → x ≡ literalPart m (getD l p 0) → Put ys out (insertInto x (take n ys)) r
+    pub collecting-keep : (b : Bool) (x r : ℕ) (out : List ℕ) → p < count → b ≡ canonical m (getD l p 0) → b ≡ true → x ≡ literalPart m (getD l p 0) → Inserted ys out (insertInto x (take n ys)) r
         → Collecting m l count xs out r (p + 1)
     unfolding addAll
     collecting-keep b x r out h e y v g = record {
@@ -118,16 +117,16 @@ module _ (m : ℕ) (l : List ℕ) (count : ℕ) (xs : List ℕ) where
           (map (literalPart m) (sift (canonical m) (drop (p + 1) (take count l)))) ys out n r (s .grows)
           (ap (map (literalPart m)) (part h ∙ ap (λ (z : Bool). cond z (getD l p 0 ∷ sift (canonical m) (drop (p + 1) (take count l))) (sift (canonical m) (drop (p + 1) (take count l)))) (sym e ∙ y))
           ∙ ap (λ (z : ℕ). z ∷ map (literalPart m) (sift (canonical m) (drop (p + 1) (take count l)))) (sym v))
-          (omega (arith, collecting-fits, s .grows .long)) (put-grown ys out (insertInto x (take n ys)) r g);
+          (omega (arith, collecting-fits, s .grows .long)) (inserted-grown ys out (insertInto x (take n ys)) r g);
     }
 
-    pub collecting-done : count ≤ p → Sifted (partsOf m (take count l)) count ys n
+    pub collecting-done : count ≤ p → Prefix (partsOf m (take count l)) ys n
     collecting-done h =
         let d = grow-done (length xs) (partsOf m (take count l)) (map (literalPart m) (sift (canonical m) (drop p (take count l)))) ys n (s .grows)
         (ap (map (literalPart m)) (ap (sift (canonical m)) (no-more l count p (s .inside) h) ∙ sift-none (canonical m))) in
-        let f : length (partsOf m (take count l)) ≤ length xs = omega (arith, few, s .room) in
+        let f : length (partsOf m (take count l)) ≤ length xs = omega (arith, parts-few m l count, s .room) in
         let q = d .count ∙ size-fits (length xs) (partsOf m (take count l)) f in
-        record { count = q; words = d .words f; few = omega (arith, few, q) }
+        record { count = q; words = d .words f }
 
 -- ---- the list written
 

@@ -5,7 +5,7 @@ ghost use Prim.Native.Nat.{_*_, _^_, _≤_, _<_, min};
 ghost use lib.ListN.{length, take};
 ghost use Rattle.sets.specs.Lists.{Each, tabulate};
 ghost use Rattle.program.specs.Valid.{valid};
-ghost use Rattle.rising.specs.Slices.{Sifted};
+ghost use Rattle.rising.specs.Slices.{Prefix};
 ghost use Rattle.operator.specs.Operator.{ruleAt};
 ghost use Rattle.transform.specs.Listing.{literalPart, canonical, partsOf};
 ghost use Rattle.fixpoint.specs.Overwriting.{overwrite};
@@ -41,7 +41,7 @@ fn is_canonical(w: u64, m: u32) -> bool
 // Forms in `set` the set of the literal parts of the canonical ones among the first `count` words.
 fn collect(list: &[u64], count: usize, m: u32, set: &mut [u64]) -> usize
     requires { ⌜ (count ≤ length (now list)) × (count ≤ length (now set)) × (m < 64) ⌝ }
-    ensures { λ r. ⌜ Sifted (partsOf m (take count (now (list .entry)))) count (now (set .exit)) r ⌝ }
+    ensures { λ r. ⌜ Prefix (partsOf m (take count (now (list .entry)))) (now (set .exit)) r ⌝ }
 {
     let mut n: usize = 0;
     let mut p: usize = 0;

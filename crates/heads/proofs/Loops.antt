@@ -6,7 +6,7 @@ use mathlib.Core.Logic.{_⊎_, inl, ⊎-elim}
 use Prim.Native.Nat.{ℕ, _+_, _-_, _*_, _^_, _%_, _≤_, _<_}
 use native.Mathlib.Nat.{one-mul}
 use native.Mathlib.Omega.{arith}
-use lib.Bits.{bitAnd, bitOr, and-le-l, and-le-r, or-zero-l, or-zero-r}
+use lib.Bits.{bitAnd, bitOr, and-le-l, or-zero-l, or-zero-r}
 use lib.Count.{trailingZeros}
 use lib.Dec.{T, lit<}
 use lib.ListN.{length, getD, set}
@@ -18,7 +18,7 @@ use Rattle.sets.specs.Words.{bit, meets}
 use Rattle.sets.proofs.Lists.{onward-start, onward-step, onward-done, upFrom-ext, upFrom-add}
 use Rattle.sets.proofs.Tests.{T-true}
 use Rattle.sets.proofs.Digits.{bits-ext, meets-bits}
-use Rattle.rising.proofs.Literals.{low-lt, literals-low, lit-out}
+use Rattle.rising.proofs.Literals.{literals-low, lit-out}
 use Rattle.heads.specs.Heads.{Literal, headAt, offeredBy, without}
 use Rattle.sets.proofs.Branches.{in-or, or-left, or-right, in-pow}
 
@@ -32,12 +32,6 @@ without-is a b = refl
 
 pub part-within : (a b : ℕ) → bitAnd a b ≤ a
 part-within a b = and-le-l a b
-
-pub slot-small : (x : ℕ) → bitAnd x 63 < 64
-slot-small x = omega (arith, and-le-r x 63)
-
-pub low-less : (s : ℕ) → (s ≡ 0 → ⊥) → bitAnd s (s - 1) < s
-low-less s n = low-lt s (omega (arith, n))
 
 -- the bit at t is set
 pub literal-tested : (s t : ℕ) → t < 64 → (bitAnd s (1 * 2 ^ t % 2 ^ 64) ≡ 0 → ⊥) → Literal s t

@@ -58,7 +58,7 @@ joined-none f (x ∷ l) h = ap₂ (λ a b. a ++ b) (h x) (joined-none f l h)
 
 -- then it gives nothing
 pub barred-none : (i : ℕ) (Q : List WordRule) → barred i Q ≡ true → (j : ℕ) → choices i Q j ≡ []
-unfolding anyOf bars flatMap
+unfolding anyOf flatMap
 barred-none i [] e j = absurd (let z : _≡_ {A = ℕ} 0 1 = cc in omega arith)
 barred-none i (c ∷ Q) e j = go (bars i c) refl e (barred-none i Q)
   where

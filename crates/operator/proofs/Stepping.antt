@@ -22,27 +22,23 @@ use Rattle.rising.specs.Growing.{Grown}
 use Rattle.operator.specs.Operator.{WordRule, ruleAt, choices, fired, bars, barred, next, Chosen}
 use Rattle.rising.specs.RisingSets.{addAll}
 
-pub bars-is : (i head body : ℕ) → (eqb head 0 && eqb (bitAnd body i) body) ≡ bars i (record { head = head; body = body })
-unfolding bars
-bars-is i head body = refl
-
 -- ---- what one member gives
 
-module _ (hs bs : List ℕ) (count i : ℕ) (xs : List ℕ) (held : ℕ) where
-  pub gives-none : (b : Bool) → held ≤ length xs → b ≡ barred i (tabulate (ruleAt hs bs) count) → b ≡ true
-      → Grown (length xs) (addAll (choices i (tabulate (ruleAt hs bs) count) i) (take held xs)) xs held
+module _ (hs bs : List ℕ) (count i : ℕ) (xs : List ℕ) (members : ℕ) where
+  pub gives-none : (b : Bool) → members ≤ length xs → b ≡ barred i (tabulate (ruleAt hs bs) count) → b ≡ true
+      → Grown (length xs) (addAll (choices i (tabulate (ruleAt hs bs) count) i) (take members xs)) xs members
   unfolding addAll
-  gives-none b h e t = grown-as (length xs) (take held xs) (addAll (choices i (tabulate (ruleAt hs bs) count) i) (take held xs)) xs held
-      (ap (λ (l : List ℕ). addAll l (take held xs)) (barred-none i (tabulate (ruleAt hs bs) count) (sym e ∙ t) i))
-      (grown-held xs held h)
+  gives-none b h e t = grown-as (length xs) (take members xs) (addAll (choices i (tabulate (ruleAt hs bs) count) i) (take members xs)) xs members
+      (ap (λ (l : List ℕ). addAll l (take members xs)) (barred-none i (tabulate (ruleAt hs bs) count) (sym e ∙ t) i))
+      (grown-held xs members h)
 
   -- no head is set aside yet
-  pub gives-all : (ws vs out : List ℕ) (r : ℕ) → Chosen (length xs) (addAll (picks (tabulate (headAt ws) 0 ++ fired i (onward (ruleAt hs bs) count 0)) i) (take held xs)) out r 0 ws vs
-      → Grown (length xs) (addAll (choices i (tabulate (ruleAt hs bs) count) i) (take held xs)) out r
+  pub gives-all : (ws vs out : List ℕ) (r : ℕ) → Chosen (length xs) (addAll (picks (tabulate (headAt ws) 0 ++ fired i (onward (ruleAt hs bs) count 0)) i) (take members xs)) out r 0 ws vs
+      → Grown (length xs) (addAll (choices i (tabulate (ruleAt hs bs) count) i) (take members xs)) out r
   unfolding tabulate upFrom
   gives-all ws vs out r g =
-      grown-as (length xs) (addAll (picks (fired i (onward (ruleAt hs bs) count 0)) i) (take held xs)) (addAll (choices i (tabulate (ruleAt hs bs) count) i) (take held xs)) out r
-      (ap (λ (l : List ℕ). addAll l (take held xs))
+      grown-as (length xs) (addAll (picks (fired i (onward (ruleAt hs bs) count 0)) i) (take members xs)) (addAll (choices i (tabulate (ruleAt hs bs) count) i) (take members xs)) out r
+      (ap (λ (l : List ℕ). addAll l (take members xs))
       (choices-picks i (tabulate (ruleAt hs bs) count) i ∙ ap (λ (Q : List WordRule). picks (fired i Q) i) (sym (onward-start (ruleAt hs bs) count))))
       (g .grown)
 
@@ -91,4 +87,4 @@ module _ (Q : List WordRule) (now : List ℕ) (members : ℕ) (xs : List ℕ) wh
               (omega (arith, s .grows .long)) g;
         }
 
-pub ruleset stepping = (bars-is, lacks-start, lacks-hit, lacks-more, lacks-none, via, gives-none, gives-all, nothing-rises, step-start, step-over, step-done, step-long, step-rises, step-next, needs)
+pub ruleset stepping = (lacks-start, lacks-hit, lacks-more, lacks-none, via, gives-none, gives-all, nothing-rises, step-start, step-over, step-done, step-long, step-rises, step-next, needs)

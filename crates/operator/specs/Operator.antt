@@ -41,7 +41,7 @@ stage Q zero = 0 ∷ []
 stage Q (suc k) = next Q (stage Q k)
 
 -- a constraint whose body lies in i
-unfoldable pub bars : ℕ → WordRule → Bool
+abbrev pub bars : ℕ → WordRule → Bool
 bars i c = eqb (c .head) 0 && inside (c .body) i
 
 -- i contains some constraint's body

@@ -31,23 +31,23 @@ fn choose<'a>(
     wide: &mut [u64; 64],
     n: usize,
     set: &mut [u64],
-    held: usize,
+    members: usize,
 ) -> usize
-    requires { ⌜ (count ≤ length (now heads)) × (count ≤ length (now bodies)) × (k ≤ count) × (length (now wide) ≡ 64) × (n ≤ 64) × (held ≤ length (now set)) × Rising (take held (now set)) ⌝ }
-    ensures { λ r. ⌜ Chosen (length (now (set .entry))) (addAll (picks (tabulate (headAt (now (wide .entry))) n ++ fired i (onward (ruleAt (now (heads .entry)) (now (bodies .entry))) count k)) j) (take held (now (set .entry)))) (now (set .exit)) r n (now (wide .entry)) (now (wide .exit)) ⌝ }
+    requires { ⌜ (count ≤ length (now heads)) × (count ≤ length (now bodies)) × (k ≤ count) × (length (now wide) ≡ 64) × (n ≤ 64) × (members ≤ length (now set)) × Rising (take members (now set)) ⌝ }
+    ensures { λ r. ⌜ Chosen (length (now (set .entry))) (addAll (picks (tabulate (headAt (now (wide .entry))) n ++ fired i (onward (ruleAt (now (heads .entry)) (now (bodies .entry))) count k)) j) (take members (now (set .entry)))) (now (set .exit)) r n (now (wide .entry)) (now (wide .exit)) ⌝ }
 {
     if k == count {
-        return heads::combine(wide, n, j, set, held);
+        return heads::combine(wide, n, j, set, members);
     }
     if !rising::subset(bodies[k], i) {
-        return choose(heads, bodies, count, i, k + 1, j, wide, n, set, held);
+        return choose(heads, bodies, count, i, k + 1, j, wide, n, set, members);
     }
     let head = heads[k];
     if sets_aside(head, n) {
         wide[n] = head;
-        return choose(heads, bodies, count, i, k + 1, j, wide, n + 1, set, held);
+        return choose(heads, bodies, count, i, k + 1, j, wide, n + 1, set, members);
     }
-    let mut m = held;
+    let mut m = members;
     let mut rest = head;
     while rest != 0 {
         if set.len() < m {
@@ -89,16 +89,16 @@ fn give<'a>(
     count: usize,
     i: u64,
     set: &mut [u64],
-    held: usize,
+    members: usize,
 ) -> usize
-    requires { ⌜ (count ≤ length (now heads)) × (count ≤ length (now bodies)) × (held ≤ length (now set)) × Rising (take held (now set)) ⌝ }
-    ensures { λ r. ⌜ Grown (length (now (set .entry))) (addAll (choices i (tabulate (ruleAt (now (heads .entry)) (now (bodies .entry))) count) i) (take held (now (set .entry)))) (now (set .exit)) r ⌝ }
+    requires { ⌜ (count ≤ length (now heads)) × (count ≤ length (now bodies)) × (members ≤ length (now set)) × Rising (take members (now set)) ⌝ }
+    ensures { λ r. ⌜ Grown (length (now (set .entry))) (addAll (choices i (tabulate (ruleAt (now (heads .entry)) (now (bodies .entry))) count) i) (take members (now (set .entry)))) (now (set .exit)) r ⌝ }
 {
     if blocked(heads, bodies, count, i) {
-        return held;
+        return members;
     }
     let mut wide = [0u64; 64];
-    choose(heads, bodies, count, i, 0, i, &mut wide, 0, set, held)
+    choose(heads, bodies, count, i, 0, i, &mut wide, 0, set, members)
 }
 
 // Forms in `after` the stage that follows the one in the first `members` places of `stage`; gives its number of members, or one more than there are places.

@@ -13,7 +13,7 @@ use Rattle.rising.specs.RisingSets.{insertInto, addAll}
 use Rattle.rising.specs.Literals.{bitsFrom}
 use Rattle.operator.specs.Operator.{WordRule, choices, next, stage}
 use Rattle.stages.specs.Run.{resting, ending, finalStage}
-use Rattle.stages.specs.Minimal.{violates, satisfies, properIn, leastIn, minimals, minimalModels}
+use Rattle.stages.specs.Minimal.{minimals, minimalModels}
 use Rattle.transform.specs.Transform.{numbered, rewritten, becomes, standIns, allStandIns, kappaFrom, members}
 use Rattle.transform.specs.Listing.{canonical, listing}
 
@@ -24,7 +24,7 @@ fixpointOf b = listing (2 * b .names) (kappaFrom (2 * b .names) (2 * b .names + 
 -- all eleven at once, by computation
 pub fixpoint-books-hold : map fixpointOf books ≡ map modelsOf books
 unfolding books wordOf clauseOfValues wordBy bitsOf anyOf sift mask least same insertInto addAll bitsFrom choices next stage resting ending finalStage
-    violates satisfies properIn leastIn minimals minimalModels numbered rewritten becomes standIns kappaFrom canonical listing flatMap
+    minimals minimalModels numbered rewritten becomes standIns kappaFrom canonical listing flatMap
 fixpoint-books-hold = refl
 
 -- the stages of the source's Example 2.11: a ∨ b ← c, ¬d ← c, c ←, ← a, b, over a, b, c, d

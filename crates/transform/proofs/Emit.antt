@@ -11,7 +11,7 @@ use native.Mathlib.Nat.{add-zero}
 use native.Mathlib.Omega.{arith}
 use Rattle.sets.specs.Lists.{upFrom, tabulate}
 use Rattle.sets.proofs.Lists.{upFrom-add, upFrom-ext}
-use Rattle.rising.proofs.Literals.{low-lt, literals-low, literals-none, trailing-lt}
+use Rattle.rising.proofs.Literals.{low-less, lowest-small, literals-low, literals-none}
 use Rattle.rising.specs.Literals.{literals, low}
 use Rattle.operator.specs.Operator.{WordRule, ruleAt}
 use Rattle.transform.specs.Emit.{Emits, Room, forEach}
@@ -120,7 +120,7 @@ module _ (f : Stand → List WordRule) (head s : ℕ) (hs₀ bs₀ : List ℕ) (
     first t n e = ap (λ (l : List ℕ). flatMap f (numbered p l)) (literals-low rest n (w .small)) ∙ ap (λ (u : ℕ). f (record { literal = u; at = p }) ++ forEach f (p + 1) (low rest)) (sym e)
 
     pub walk-literal : (t : ℕ) → (rest ≡ 0 → ⊥) → t ≡ trailingZeros 64 rest → t < 64
-    walk-literal t n e = let h = trailing-lt 64 rest (omega (arith, n)) (w .small) in omega arith
+    walk-literal t n e = lowest-small rest t n (w .small) e
 
     pub walk-place : (rest ≡ 0 → ⊥) → p < 64
     walk-place n = let l = ap length (literals-low rest n (w .small)) in omega (arith, w .places)
@@ -132,14 +132,11 @@ module _ (f : Stand → List WordRule) (head s : ℕ) (hs₀ bs₀ : List ℕ) (
     pub walk-step : (t : ℕ) (hs′ bs′ : List ℕ) (r : ℕ) → (rest ≡ 0 → ⊥) → t ≡ trailingZeros 64 rest → Emits (f (record { literal = t; at = p })) hs bs at hs′ bs′ r
         → Walk f head s hs₀ bs₀ at₀ (low rest) (p + 1) hs′ bs′ r
     walk-step t hs′ bs′ r n e c = record {
-      small = omega (arith, low-lt rest (omega (arith, n)), w .small);
+      small = omega (arith, low-less rest n, w .small);
       places = let l = ap length (literals-low rest n (w .small)) in omega (arith, w .places);
       emits = emitting-call (forEach f s head) (forEach f p rest) hs₀ bs₀ at₀ hs bs at (w .emits) (f (record { literal = t; at = p }))
           (forEach f (p + 1) (low rest)) hs′ bs′ r (first t n e) c;
     }
-
-    pub walk-less : (rest ≡ 0 → ⊥) → low rest < rest
-    walk-less n = low-lt rest (omega (arith, n))
 
     pub walk-heads : length hs ≡ length hs₀
     walk-heads = w .emits .emits .heads

@@ -14,10 +14,11 @@ use mir.Val.{Fits}
 use native.Mathlib.Nat.{one-mul, pow-suc}
 use native.Mathlib.Omega.{arith}
 use Rattle.sets.specs.Words.{mask}
+use Rattle.rising.proofs.Literals.{low-less}
 use Rattle.rising.specs.Literals.{here, bitsFrom, literals, low}
 use Rattle.operator.specs.Operator.{WordRule}
 use Rattle.transform.proofs.Emit.{emits-one, emits-none, emits-as, room-one, room-as, room-first, room-then, emits-then, Emitting, Walk, walk-start, walk-literal}
-use Rattle.transform.proofs.Emit.{walk-place, walk-room, walk-step, walk-less, walk-heads, walk-bodies, walk-done}
+use Rattle.transform.proofs.Emit.{walk-place, walk-room, walk-step, walk-heads, walk-bodies, walk-done}
 use Rattle.transform.specs.Emit.{Emits, Room, forEach, oneB, oneC, eachC, eachD}
 use Rattle.transform.specs.Transform.{Stand, numbered, clauseB, clauseC, clauseD}
 
@@ -145,7 +146,7 @@ module _ (x : Stand) (head s : ℕ) (hs₀ bs₀ : List ℕ) (at₀ rest p : ℕ
 
 pub ruleset clause-laws = (single-is, couple-is, emits-one, room-first, room-then, emits-then, b-there, b-is, c-there, c-is, d-none, d-there, d-is)
 
-pub ruleset walk-laws = (walk-start, walk-literal, walk-place, walk-step, walk-less, walk-heads, walk-bodies, walk-done)
+pub ruleset walk-laws = (walk-start, walk-literal, walk-place, walk-step, low-less, walk-heads, walk-bodies, walk-done)
 
 -- what `search` is handed in the routines that put out (b), (c) and (d)
 pub ruleset emitting = (clause-laws, walk-laws, b-room, run-start, run-step, run-room, c-room, c-step, d-room, d-step, pair-room, needs)

@@ -14,4 +14,6 @@ abbrev μ-loop : tie.MeasureT-loop
 μ-loop wide n v k₀ k = n - k
 
 pub missed-spec : {M : Type 1} → statement M
-missed-spec = tie.close (tie.spec Inv-loop μ-loop (λ c. search loops) (λ c. search loops) (λ c. search loops) (λ c. search loops) (λ c. search loops) (λ c. search loops) (λ c. search loops) (λ c. search loops))
+missed-spec = tie.close (tie.spec
+    Inv-loop μ-loop (λ c. search loops) (λ c. search loops) (λ c. search loops) (λ c. search loops) (λ c. search loops) (λ c. search loops) (λ c. search loops)
+    (λ c. search loops))

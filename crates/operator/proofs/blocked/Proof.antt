@@ -13,4 +13,6 @@ abbrev μ-loop : tie.MeasureT-loop
 μ-loop heads bodies count i k₀ k = count - k
 
 pub blocked-spec : {M : Type 1} → statement M
-blocked-spec = tie.close (tie.spec Inv-loop μ-loop (λ c. search stepping) (λ c. search stepping) (λ c. search stepping) (λ c. search stepping) (λ c. search stepping) (λ c. search stepping) (λ c. search stepping) (λ c. search stepping) (λ c. search stepping) (λ c. search stepping) (λ c. search stepping))
+blocked-spec = tie.close (tie.spec
+    Inv-loop μ-loop (λ c. search stepping) (λ c. search stepping) (λ c. search stepping) (λ c. search stepping) (λ c. search stepping) (λ c. search stepping)
+    (λ c. search stepping) (λ c. search stepping) (λ c. search stepping) (λ c. search stepping) (λ c. search stepping))

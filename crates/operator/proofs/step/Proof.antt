@@ -14,4 +14,6 @@ abbrev μ-loop : tie.MeasureT-loop
 μ-loop heads bodies count stage members after₀ n₀ p₀ after n p = members - p
 
 pub step-spec : {M : Type 1} → statement M
-step-spec = tie.close (tie.spec Inv-loop μ-loop (λ c. search stepping) (λ c. search stepping) (λ c. search stepping) (λ c. search stepping) (λ c. search stepping) (λ c. search stepping) (λ c. search stepping) (λ c. search stepping) (λ c. search stepping) (λ c. search stepping) (λ c. search stepping))
+step-spec = tie.close (tie.spec
+    Inv-loop μ-loop (λ c. search stepping) (λ c. search stepping) (λ c. search stepping) (λ c. search stepping) (λ c. search stepping) (λ c. search stepping)
+    (λ c. search stepping) (λ c. search stepping) (λ c. search stepping) (λ c. search stepping) (λ c. search stepping))

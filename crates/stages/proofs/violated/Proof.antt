@@ -14,4 +14,6 @@ abbrev μ-loop : tie.MeasureT-loop
 μ-loop heads bodies count w k₀ k = count - k
 
 pub violated-spec : {M : Type 1} → statement M
-violated-spec = tie.close (tie.spec Inv-loop μ-loop (λ c. search selecting) (λ c. search selecting) (λ c. search selecting) (λ c. search selecting) (λ c. search selecting) (λ c. search selecting) (λ c. search selecting) (λ c. search selecting) (λ c. search selecting) (λ c. search selecting) (λ c. search selecting))
+violated-spec = tie.close (tie.spec
+    Inv-loop μ-loop (λ c. search selecting) (λ c. search selecting) (λ c. search selecting) (λ c. search selecting) (λ c. search selecting)
+    (λ c. search selecting) (λ c. search selecting) (λ c. search selecting) (λ c. search selecting) (λ c. search selecting) (λ c. search selecting))
