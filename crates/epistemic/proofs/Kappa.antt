@@ -6,7 +6,8 @@ use mathlib.Core.List.{List, [], _∷_, _++_, map}
 use Prim.Native.Nat.{ℕ}
 use lib.Dec.{T, eqb, eqb→eq, T-not, not-T}
 use Rattle.epistemic.specs.Positive.{All, Any, None, Rule, Sat, Model, Minimal}
-use Rattle.epistemic.specs.Transform.{Tagged, misses, reduct, Stable, Atom, lit, know, stand, ruleA, ruleB, ruleC, ruleD, rulesB, rulesC, rulesD, kappaNaf, kappaPos, noNaf, kappaOf, kappa, Canonical, lits}
+use Rattle.epistemic.specs.Transform.{Tagged, misses, reduct, Stable, Atom, lit, know, stand, ruleA, ruleB, ruleC, ruleD, rulesB, rulesC, rulesD, kappaNaf}
+use Rattle.epistemic.specs.Transform.{kappaPos, noNaf, kappaOf, kappa, Canonical, lits}
 use Rattle.sets.proofs.Lists.{in-++, in-++-l, in-++-r, in-map, map-in, in-flatMap, flatMap-in}
 use Rattle.sets.proofs.Tests.{T?, T-and, T-and-l, T-and-r}
 use Rattle.sets.specs.Lists.{_∈_, Each, Some}
@@ -86,7 +87,8 @@ module _ (M : Set Atom) (c : Tagged) (h : Model M (kappaNaf c)) where
       go z t (inr i) = inr (any-map M know (c .naf) (z, i, t))
 
   of-b : (x : ℕ) → x ∈ c .head → T (M (stand c x)) → T (M (lit x))
-  of-b x i t = one (h (ruleB c x) (inr (in-++-l (ruleB c x) (rulesB c) (rulesC c ++ rulesD c) (in-map (ruleB c) x (c .head) i))) (λ z k. ⊎-elim (λ e. subst (λ v. T (M v)) (sym e) t) (λ b. absurd b) k))
+  of-b x i t = one (h (ruleB c x) (inr (in-++-l (ruleB c x) (rulesB c) (rulesC c ++ rulesD c) (in-map (ruleB c) x (c .head) i)))
+      (λ z k. ⊎-elim (λ e. subst (λ v. T (M v)) (sym e) t) (λ b. absurd b) k))
     where
       one : Any M (lit x ∷ []) → T (M (lit x))
       one s = ⊎-elim (λ e. subst (λ v. T (M v)) e (s .2)) (λ b. absurd b) (s .1)

@@ -142,7 +142,11 @@ module _ (m : ℕ) (P : List Tagged) (small : Each (Small m) P) where
       st x k = stands-in P c i t x k
 
       fine-naf : Each Fine (kappaNaf c)
-      fine-naf r (inl e) = subst Fine (sym e) (each-++ G (map (stand c) (c .head)) (map know (c .naf)) (each-map (stand c) (c .head) st) (each-map know (c .naf) (small c i .nafs)), each-map lit (c .body) (small c i .bodies))
+      fine-naf r (inl e) = subst Fine (sym e) (
+        each-++ G (map (stand c) (c .head)) (map know (c .naf)) (each-map (stand c) (c .head) st)
+            (each-map know (c .naf) (small c i .nafs)),
+        each-map lit (c .body) (small c i .bodies),
+      )
       fine-naf r (inr k) = ⊎-elim inB (λ k′. ⊎-elim inC inD (in-++ r (rulesC c) (rulesD c) k′)) (in-++ r (rulesB c) (rulesC c ++ rulesD c) k)
         where
           inB : r ∈ rulesB c → Fine r
@@ -159,8 +163,11 @@ module _ (m : ℕ) (P : List Tagged) (small : Each (Small m) P) where
           inD n =
               let s = flatMap-in (λ x. flatMap (λ y. cond (eqb x y) [] (ruleD c x y ∷ [])) (c .head)) r (c .head) n in
               let u = flatMap-in (λ y. cond (eqb (s .0) y) [] (ruleD c (s .0) y ∷ [])) r (c .head) (s .2) in
-              subst Fine (sym (only (eqb (s .0) (u .0)) (ruleD c (s .0) (u .0)) (u .2)))
-              (each-cons (stand c (s .0)) [] (st (s .0) (s .1)) each-nil, each-cons (lit (s .0)) (stand c (u .0) ∷ []) (small c i .heads (s .0) (s .1)) (each-cons (stand c (u .0)) [] (st (u .0) (u .1)) each-nil))
+              subst Fine (sym (only (eqb (s .0) (u .0)) (ruleD c (s .0) (u .0)) (u .2))) (
+                each-cons (stand c (s .0)) [] (st (s .0) (s .1)) each-nil,
+                each-cons (lit (s .0)) (stand c (u .0) ∷ []) (small c i .heads (s .0) (s .1))
+                    (each-cons (stand c (u .0)) [] (st (u .0) (u .1)) each-nil),
+              )
             where
               only : (b : Bool) (z : Rule Atom) → r ∈ cond b [] (z ∷ []) → r ≡ z
               only true z k = absurd k

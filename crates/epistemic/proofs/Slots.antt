@@ -111,5 +111,6 @@ mask-shift s m w h = bit-ext (mask (map (λ x. s + x) (unmask m w))) (w * 2 ^ s)
         go (yes k) =
             let e : i ≡ s + (i - s) = omega arith in
             let u : T (bit w (i - s)) = subst T (up (i - s)) (subst (λ z. T (bit (w * 2 ^ s) z)) e t) in
-            subst (λ z. T (bit (mask (map (λ x. s + x) (unmask m w))) z)) (sym e) (mask-in (map (λ x. s + x) (unmask m w)) (s + (i - s)) (in-map (λ x. s + x) (i - s) (unmask m w) (unmask-in m w (i - s) (bit-small w m (i - s) h u) u)))
+            subst (λ z. T (bit (mask (map (λ x. s + x) (unmask m w))) z)) (sym e)
+            (mask-in (map (λ x. s + x) (unmask m w)) (s + (i - s)) (in-map (λ x. s + x) (i - s) (unmask m w) (unmask-in m w (i - s) (bit-small w m (i - s) h u) u)))
         go (no n) = absurd (subst T (bit-under w s i (omega (arith, n))) t)

@@ -205,7 +205,8 @@ module _ (m : ℕ) (P : List Tagged) (small : Each (Small m) P) (j : ℕ) (same 
     min,
     can,
     fun-ext (λ x. T-ext (M (lit x)) (bit I x)
-        (λ t. subst (λ z. T (bit z x)) (h .literals) (to-low w x (good-names m P small (lit x) (pull-V Atom-discrete ℕ-discrete ν Vo (bit w) (lit x) t)) (pull-out Atom-discrete ℕ-discrete ν Vo (bit w) (lit x) t)))
+        (λ t. subst (λ z. T (bit z x)) (h .literals) (to-low w x (good-names m P small (lit x) (pull-V Atom-discrete ℕ-discrete ν Vo (bit w) (lit x) t))
+        (pull-out Atom-discrete ℕ-discrete ν Vo (bit w) (lit x) t)))
         (λ t. let k = low w x (subst (λ z. T (bit z x)) (sym (h .literals)) t) in pull-in Atom-discrete ℕ-discrete ν Vo (bit w) (lit x) (lit-in x (k .0)) (k .1))),
   )
     where

@@ -47,7 +47,8 @@ put-add : (h w : ℕ) → bit (put h w) ≡ add ℕ-discrete h (bit w)
 unfolding add
 put-add h w = fun-ext (λ i. bit-or w (2 ^ h) i ∙ ap (λ b. bit w i || b) (bit-pow h i) ∙ T-ext (bit w i || eqb i h) (yes? (ℕ-discrete i h) || bit w i)
     (λ t. ⊎-elim (λ p. T-or-r (yes? (ℕ-discrete i h)) (bit w i) p) (λ p. T-or-l (yes? (ℕ-discrete i h)) (bit w i) (yes?-in (ℕ-discrete i h) (eqb→eq i h p))) (T-or (bit w i) (eqb i h) t))
-    (λ t. ⊎-elim (λ p. T-or-r (bit w i) (eqb i h) (subst (λ z. T (eqb i z)) (yes?-out (ℕ-discrete i h) p) (eqb-refl i))) (λ p. T-or-l (bit w i) (eqb i h) p) (T-or (yes? (ℕ-discrete i h)) (bit w i) t)))
+    (λ t. ⊎-elim (λ p. T-or-r (bit w i) (eqb i h) (subst (λ z. T (eqb i z)) (yes?-out (ℕ-discrete i h) p) (eqb-refl i))) (λ p. T-or-l (bit w i) (eqb i h) p)
+    (T-or (yes? (ℕ-discrete i h)) (bit w i) t)))
 
 pub map-++ : {X Y : Type 0} (f : X → Y) (s t : List X) → map f (s ++ t) ≡ map f s ++ map f t
 map-++ f [] t = refl
@@ -110,8 +111,10 @@ meets→Any w l t = go (T? (touches (bit w) l))
     go : T (touches (bit w) l) ⊎ (T (touches (bit w) l) → ⊥) → Any (bit w) l
     go (inl s) = touches→Any (bit w) l s
     go (inr n) = absurd (T-not (eqb (bitAnd (mask l) w) 0) t (subst (λ z. T (eqb z 0)) (sym (bit-ext (bitAnd (mask l) w) 0 (λ i. bit-and (mask l) w i ∙
-        T-ext (bit (mask l) i && bit w i) (bit 0 i) (λ u. absurd (n (Any→touches (bit w) l i (mask-out l i (T-and-l (bit (mask l) i) (bit w i) u)) (T-and-r (bit (mask l) i) (bit w i) u)))) (λ u. absurd (subst T (bit-zero i) u))))) tt))
+        T-ext (bit (mask l) i && bit w i) (bit 0 i) (λ u. absurd
+        (n (Any→touches (bit w) l i (mask-out l i (T-and-l (bit (mask l) i) (bit w i) u)) (T-and-r (bit (mask l) i) (bit w i) u)))) (λ u. absurd (subst T (bit-zero i) u))))) tt))
 
 pub Any→meets : (w : ℕ) (l : List ℕ) → Any (bit w) l → T (not (eqb (bitAnd (mask l) w) 0))
 Any→meets w l s = not-T (eqb (bitAnd (mask l) w) 0) (λ t.
-    subst T (bit-zero (s .0)) (subst (λ z. T (bit z (s .0))) (eqb→eq (bitAnd (mask l) w) 0 t) (subst T (sym (bit-and (mask l) w (s .0))) (T-and (bit (mask l) (s .0)) (bit w (s .0)) (mask-in l (s .0) (s .1)) (s .2)))))
+    subst T (bit-zero (s .0)) (subst (λ z. T (bit z (s .0))) (eqb→eq (bitAnd (mask l) w) 0 t)
+    (subst T (sym (bit-and (mask l) w (s .0))) (T-and (bit (mask l) (s .0)) (bit w (s .0)) (mask-in l (s .0) (s .1)) (s .2)))))

@@ -1,38 +1,38 @@
--- The ways that the fixpoint's routines return. Assumes nothing.
+-- The ways that the fixpoint's routines return, one law for each, with premises that are what tests and callees give. Assumes nothing.
 use mathlib.Core.Path.{_≡_, refl, sym, ap, _∙_, subst}
 use mathlib.Core.Logic.{⊎-elim}
 use mathlib.Core.Bool.{Bool, true, false, cond, not}
-use mathlib.Core.List.{List, [], _∷_, map}
-use Prim.Native.Nat.{ℕ, zero, suc, _+_, _^_, _≤_, _<_, min}
+use mathlib.Core.List.{List, []}
+use Prim.Native.Nat.{ℕ, _+_, _^_, _≤_, _<_, min}
 use native.Mathlib.Nat.{mod-lt, lt-of-lt-of-le}
-use native.Mathlib.Numerals.{add-one}
 use native.Mathlib.Omega.{arith}
 use borrow.Author.Needs.{needs}
 use borrow.Author.Tests.{le-leb, lt-leb, lt-ltb, le-ltb, not-true, not-false}
-use lib.Dec.{ltb, eqb}
+use lib.Dec.{ltb}
 use lib.Pow.{pow-pos, pow-mono}
-use lib.ListN.{length, take}
+use lib.ListN.{length, take, length-replicate}
+use lib.Seq.{length-take-le}
 use Rattle.sets.specs.Lists.{_∈_, Each, sift, upFrom, tabulate}
-use Rattle.sets.proofs.Lists.{map-in}
+use Rattle.sets.proofs.Lists.{map-in, length-tabulate}
 use Rattle.program.specs.declared.Program.{Program}
 use Rattle.program.specs.Clauses.{Clause, Below, clauseAt, rows, clauses}
-use Rattle.program.specs.Valid.{valid, Sized}
+use Rattle.program.specs.Valid.{valid}
 use Rattle.program.specs.Refusals.{lowest}
-use Rattle.sets.proofs.Lists.{length-tabulate}
 use Rattle.program.proofs.Validity.{valid-names, valid-clauses, valid-below}
-use Rattle.rising.specs.RisingSets.{gather}
-use Rattle.rising.specs.Slices.{Kept}
-use Rattle.operator.specs.Operator.{WordRule, rulesFrom}
+use Rattle.rising.specs.Slices.{Prefix}
+use Rattle.operator.specs.Operator.{WordRule, ruleAt}
 use Rattle.stages.specs.Run.{crowded}
 use Rattle.stages.specs.Minimal.{minimalModels, Minimals}
 use Rattle.rising.proofs.RisingSets.{in-addAll}
-use Rattle.transform.specs.Transform.{epistemic, allStandIns, members}
-use Rattle.transform.specs.Emit.{clausesFrom, Emits, Room, Book}
+use Rattle.transform.specs.Transform.{kappaFrom, allStandIns, members}
+use Rattle.transform.specs.Emit.{Emits, Room, ClausesOver}
+use Rattle.transform.specs.Listing.{literalPart, canonical, partsOf, listing}
 use Rattle.program.specs.declared.Outcome.the-variants.{Complete, Full, Refused}
 use Rattle.fixpoint.specs.declared.FixpointAnswer.{FixpointAnswer}
-use Rattle.transform.specs.Listing.{literalPart, canonical, listing}
 use Rattle.fixpoint.specs.Overwriting.{overwrite}
-use Rattle.fixpoint.specs.Answer.{listed, refused, runAnswer, runExit, Answered, Fixpoint, literalsOf, vocabulary, transformOf, found, roomOf, refusal, answerOf, exitOf, Fixes}
+use Rattle.fixpoint.specs.Answer.{listed, refused, Listed, runAnswer, runExit, Answered, literalsOf, vocabulary, transformOf, found, roomOf, refusal, answerOf}
+use Rattle.fixpoint.specs.Answer.{exitOf, Fixes}
+use Rattle.fixpoint.proofs.Collecting.{parts-few}
 use Rattle.fixpoint.proofs.Size.{program-short}
 
 -- ---- the answer's two counts
@@ -54,132 +54,167 @@ shorter-left x y h = omega arith
 pub shorter-right : (x y : ℕ) → y ≤ x → y ≡ min x y
 shorter-right x y h = omega arith
 
--- literal parts are words of the list
-pub small-parts : (m : ℕ) (l out : List ℕ) (r : ℕ) → m ≤ 32 → Kept (gather (map (literalPart m) l)) out r → Each (λ x. x < 2 ^ 32) (take r out)
-small-parts m l out r h k x i = ⊎-elim
-    (λ j. let s = map-in (literalPart m) x l j in
-    lt-of-lt-of-le (subst (λ z. z < 2 ^ m) (sym (s .2)) (mod-lt (s .0) (pow-pos m))) (pow-mono h))
-    (λ b. absurd b) (in-addAll x (map (literalPart m) l) [] (subst (λ (z : List ℕ). x ∈ z) (k .words) i))
+-- ---- the literal parts, listed
+pub parts-fit : (m : ℕ) (l out xs : List ℕ) (count k : ℕ) → Prefix (partsOf m (take count l)) out k → count ≤ length xs → length out ≡ length xs → k ≤ length out
+parts-fit m l out xs count k g h e = omega (arith, parts-few m l count, g .count)
 
--- ---- over a positive program
-module _ (m : ℕ) (Q : List WordRule) (room : ℕ) where
-  pub refused-crowded : (xs first second : List ℕ) (n : ℕ) (r : FixpointAnswer) → Minimals Q room n first second → room < n → r ≡ refused 12 → Answered m Q room xs xs r
+-- they are words of the list
+pub small-parts : (m : ℕ) (l out : List ℕ) (k : ℕ) → Prefix (partsOf m l) out k → m ≤ 32 → Each (λ x. x < 2 ^ 32) (take k out)
+small-parts m l out k g h x i = ⊎-elim
+    (λ j. let s = map-in (literalPart m) x (sift (canonical m) l) j in
+    lt-of-lt-of-le (subst (λ z. z < 2 ^ m) (sym (s .2)) (mod-lt (s .0) (pow-pos m))) (pow-mono h))
+    (λ b. absurd b) (in-addAll x _ [] (subst (λ (z : List ℕ). x ∈ z) (g .words) i))
+
+pub listed-is : (l out : List ℕ) (k : ℕ) (xs xs′ : List ℕ) (r : FixpointAnswer) → Prefix l out k → r ≡ listed k (length xs) → xs′ ≡ overwrite xs (take k out) → Listed l xs xs′ r
+listed-is l out k xs xs′ r g a e = record { answer = a ∙ ap (λ (n : ℕ). listed n (length xs)) (g .count); exit = e ∙ ap (overwrite xs) (g .words) }
+
+-- ---- over a positive program, with working slices of one length
+module _ (Q : List WordRule) (room n : ℕ) (first second : List ℕ) (d : Minimals Q room n first second) where
+  pub first-fits : n ≤ room → n ≤ length first
+  first-fits h = omega (arith, d .first-length)
+
+  pub second-fits : n ≤ room → n ≤ length second
+  second-fits h = omega (arith, d .second-length)
+
+  pub refused-crowded : (m : ℕ) (xs : List ℕ) (r : FixpointAnswer) → room < n → r ≡ refused 12 → Answered m Q room xs xs r
   unfolding runAnswer runExit
-  refused-crowded xs first second n r d h e = go (crowded Q room) refl
+  refused-crowded m xs r h e = go (crowded Q room) refl
     where
       go : (c : Bool) → crowded Q room ≡ c → Answered m Q room xs xs r
       go true c = record { answer = e ∙ rw c; exit = rw c }
       go false c = absurd (omega (arith, d .fits c))
 
-  pub answered : (xs first second set out : List ℕ) (n k : ℕ) (r : FixpointAnswer) → Minimals Q room n first second → n ≤ room
-      → Kept (gather (map (literalPart m) (sift (canonical m) (take n first)))) set k → out ≡ overwrite xs (take k set) → r ≡ listed k (length xs) → Answered m Q room xs out r
+  pub answered : (m : ℕ) (xs out : List ℕ) (r : FixpointAnswer) → Listed (partsOf m (take n first)) xs out r → n ≤ room → Answered m Q room xs out r
   unfolding runAnswer runExit listing
-  answered xs first second set out n k r d h g e a = go (crowded Q room) refl
+  answered m xs out r g h = go (crowded Q room) refl
     where
       go : (c : Bool) → crowded Q room ≡ c → Answered m Q room xs out r
       go true c = absurd (omega (arith, d .count ∙ ap (λ (x : Bool). cond x (room + 1) (length (minimalModels Q))) c))
       go false c =
-          let f : gather (map (literalPart m) (sift (canonical m) (take n first))) ≡ listing m Q = ap (λ (l : List ℕ). gather (map (literalPart m) (sift (canonical m) l))) (d .words c) in
-          record {
-            answer = a ∙ ap (λ (x : ℕ). listed x (length xs)) (g .count ∙ ap length f) ∙ rw c;
-            exit = e ∙ ap (overwrite xs) (g .words ∙ f) ∙ rw c;
-          }
+          let f : partsOf m (take n first) ≡ listing m Q = ap (partsOf m) (d .words c) in
+          record { answer = g .answer ∙ ap (λ (l : List ℕ). listed (length l) (length xs)) f ∙ rw c; exit = g .exit ∙ ap (overwrite xs) f ∙ rw c }
 
-pub room-as : (m : ℕ) (Q : List WordRule) (room room′ : ℕ) (xs out : List ℕ) (r : FixpointAnswer) → room ≡ room′ → Answered m Q room xs out r → Answered m Q room′ xs out r
-room-as m Q room room′ xs out r e d = subst (λ (k : ℕ). Answered m Q k xs out r) e d
+-- ---- with any two: the first s places of both, where s is the shorter length
+module _ (xs ys : List ℕ) (s : ℕ) (e : s ≡ min (length xs) (length ys)) where
+  first-part : length (take s xs) ≡ s
+  first-part = length-take-le s xs (omega (arith, e))
 
--- ---- the table's clauses, as the transform takes them
-from-rows : (hs bs ns : List ℕ) (n k : ℕ) → clausesFrom hs bs ns k n ≡ upFrom (clauseAt hs bs ns) n k
-unfolding clausesFrom upFrom
-from-rows hs bs ns zero k = refl
-from-rows hs bs ns (suc n) k = ap (λ (l : List Clause). clauseAt hs bs ns k ∷ l) (from-rows hs bs ns n (k + 1) ∙ ap (upFrom (clauseAt hs bs ns) n) (add-one k))
+  second-part : length (take s ys) ≡ s
+  second-part = length-take-le s ys (omega (arith, e))
 
-pub rows-from : (p : Program) → clausesFrom (p .heads) (p .bodies) (p .nafs) 0 (p .«clause_count») ≡ clauses p
-unfolding clauses rows tabulate
-rows-from p = from-rows (p .heads) (p .bodies) (p .nafs) (p .«clause_count») 0
+  pub first-there : s ≡ length (take s xs)
+  first-there = sym first-part
 
-length-from : (hs bs ns : List ℕ) (n : ℕ) → length (clausesFrom hs bs ns 0 n) ≡ n
-unfolding tabulate
-length-from hs bs ns n = ap length (from-rows hs bs ns n 0) ∙ length-tabulate (clauseAt hs bs ns) n
+  pub second-there : s ≡ length (take s ys)
+  second-there = sym second-part
 
-pub table-book : (p : Program) → Sized p → valid p ≡ true → Book (literalsOf p) (p .heads) (p .bodies) (p .nafs) (p .«clause_count»)
-table-book p s v =
-    let n = valid-names p v .few in
-    let c = valid-clauses p v .short in
-    record {
-      bits = omega arith;
-      few = c;
-      heads = omega (arith, s .heads);
-      bodies = omega (arith, s .bodies);
-      nafs = omega (arith, s .nafs);
-      below = subst (λ (C : List Clause). Each (Below (literalsOf p)) C) (sym (rows-from p)) (valid-below p v);
+  pub one-length : length (take s ys) ≡ length (take s xs)
+  one-length = second-part ∙ sym first-part
+
+  pub evened : (m : ℕ) (Q : List WordRule) (ms out : List ℕ) (r : FixpointAnswer) → Answered m Q (length (take s xs)) ms out r → Answered m Q (min (length xs) (length ys)) ms out r
+  evened m Q ms out r d = subst (λ (k : ℕ). Answered m Q k ms out r) (first-part ∙ e) d
+
+-- ---- over a valid table
+-- its clauses, as they stand in its three columns
+abbrev columns : Program → List Clause
+columns p = tabulate (clauseAt (p .heads) (p .bodies) (p .nafs)) (p .«clause_count»)
+
+module _ (p : Program) (v : valid p ≡ true) where
+  pub names-few : p .«atom_count» ≤ 12
+  names-few = valid-names p v .few
+
+  pub clauses-few : p .«clause_count» ≤ 64
+  clauses-few = valid-clauses p v .short
+
+  -- its columns are arrays of 64 places
+  pub column-fits : (xs : List ℕ) → length xs ≡ 64 → p .«clause_count» ≤ length xs
+  column-fits xs l = omega (arith, clauses-few)
+
+  module _ (m : ℕ) (e : m ≡ literalsOf p) where
+    pub counted : (st : ℕ) → st ≡ allStandIns (columns p) → m + m + st ≡ vocabulary p
+    unfolding vocabulary members clauses rows
+    counted st h = omega (arith, e, h)
+
+    pub table-over : length (p .heads) ≡ 64 → length (p .bodies) ≡ 64 → length (p .nafs) ≡ 64 → ClausesOver m (p .heads) (p .bodies) (p .nafs) (p .«clause_count»)
+    unfolding clauses rows
+    table-over hs bs ns = record {
+      literals = omega (arith, e, names-few);
+      few = clauses-few;
+      heads = column-fits (p .heads) hs;
+      bodies = column-fits (p .bodies) bs;
+      nafs = column-fits (p .nafs) ns;
+      below = subst (λ k. Each (Below k) (columns p)) (sym e) (valid-below p v);
     }
 
--- ---- over clauses
-module _ (m : ℕ) (hs bs ns : List ℕ) (count st : ℕ) (b : Book m hs bs ns count) (e : (st ≡ allStandIns (clausesFrom hs bs ns 0 count)) × (st ≤ 4096)) where
-  pub book-refused : (room : ℕ) (xs : List ℕ) (r : FixpointAnswer) → 64 < m + m + st → r ≡ refused 11 → Fixpoint m (clausesFrom hs bs ns 0 count) room xs xs r
-  unfolding members
-  book-refused room xs r h q =
-      let t = lt-ltb 64 (m + m + allStandIns (clausesFrom hs bs ns 0 count)) (omega (arith, e .0)) in
-      record { answer = q ∙ rw t; exit = rw t }
+    module _ (w : vocabulary p ≤ 64) where
+      pub table-fits : members m (columns p) ≤ 64
+      unfolding vocabulary clauses rows
+      table-fits = subst (λ k. members k (columns p) ≤ 64) (sym e) w
 
-  module _ (h : m + m + st ≤ 64) where
-    fits : members m (clausesFrom hs bs ns 0 count) ≤ 64
-    unfolding members
-    fits = omega (arith, e .0)
+      short : length (kappaFrom m (m + m) (columns p)) ≤ 1120
+      unfolding clauses rows
+      short = program-short m _ (subst (λ k. Each (Below k) (columns p)) (sym e) (valid-below p v))
+          (let l = length-tabulate (clauseAt (p .heads) (p .bodies) (p .nafs)) (p .«clause_count») in omega (arith, clauses-few)) table-fits
 
-    short : length (epistemic m (m + m) (clausesFrom hs bs ns 0 count)) ≤ 1120
-    short = program-short m (clausesFrom hs bs ns 0 count) (b .below) (let l = length-from hs bs ns count in omega (arith, b .few)) fits
+      pub table-room : (xs ys : List ℕ) → length xs ≡ 1120 → length ys ≡ 1120 → Room (kappaFrom m (m + m) (columns p)) xs ys 0
+      table-room xs ys a b = record { heads = omega (arith, short); bodies = omega (arith, short) }
 
-    pub book-room : (xs ys : List ℕ) → length xs ≡ 1120 → length ys ≡ 1120 → (members m (clausesFrom hs bs ns 0 count) ≤ 64) × Room (epistemic m (m + m) (clausesFrom hs bs ns 0 count)) xs ys 0
-    book-room xs ys p q = (fits, record { heads = omega (arith, short); bodies = omega (arith, short) })
+      module _ (xs ys xs′ ys′ : List ℕ) (n : ℕ) (g : Emits (kappaFrom m (m + m) (columns p)) xs ys 0 xs′ ys′ n) where
+        pub heads-there : length xs ≡ 1120 → n ≤ length xs′
+        heads-there a = omega (arith, short, g .count, g .heads)
 
-    pub book-count : (xs ys xs′ ys′ : List ℕ) (n : ℕ) → length xs ≡ 1120 → length ys ≡ 1120 → Emits (epistemic m (m + m) (clausesFrom hs bs ns 0 count)) xs ys 0 xs′ ys′ n → (n ≤ length xs′) × (n ≤ length ys′) × (m ≤ 32)
-    book-count xs ys xs′ ys′ n p q g = (omega (arith, short, g .count, g .heads), omega (arith, short, g .count, g .bodies), omega (arith, b .bits))
+        pub bodies-there : length ys ≡ 1120 → n ≤ length ys′
+        bodies-there b = omega (arith, short, g .count, g .bodies)
 
-    pub book-answered : (xs ys xs′ ys′ : List ℕ) (n room : ℕ) (ms out : List ℕ) (r : FixpointAnswer) → Emits (epistemic m (m + m) (clausesFrom hs bs ns 0 count)) xs ys 0 xs′ ys′ n
-        → Answered m (rulesFrom xs′ ys′ 0 n) room ms out r → Fixpoint m (clausesFrom hs bs ns 0 count) room ms out r
-    unfolding rulesFrom
-    book-answered xs ys xs′ ys′ n room ms out r g d =
-        let t = le-ltb 64 (members m (clausesFrom hs bs ns 0 count)) fits in
-        record {
-          answer = d .answer ∙ ap (λ (Q : List WordRule). runAnswer m Q room (length ms)) (g .rules) ∙ rw t;
-          exit = d .exit ∙ ap (λ (Q : List WordRule). runExit m Q room ms) (g .rules) ∙ rw t;
-        }
+    pub table-answered : (xs ys xs′ ys′ : List ℕ) (n room : ℕ) (ms out : List ℕ) (r : FixpointAnswer)
+        → Emits (kappaFrom m (m + m) (columns p)) xs ys 0 xs′ ys′ n
+        → Answered m (tabulate (ruleAt xs′ ys′) n) room ms out r → Answered (literalsOf p) (transformOf p) room ms out r
+    unfolding transformOf clauses rows tabulate upFrom
+    table-answered xs ys xs′ ys′ n room ms out r g d = subst (λ k. Answered k (kappaFrom k (k + k) (columns p)) room ms out r) e
+        (subst (λ (Q : List WordRule). Answered m Q room ms out r) (g .rules) d)
 
--- ---- over a table
-module _ (p : Program) (l₀ w₀ v₀ w v : List ℕ) (lw : length w ≡ length w₀) (lv : length v ≡ length v₀) where
-  pub no-table : {b : Bool} (r : FixpointAnswer) → b ≡ valid p → not b ≡ true → r ≡ refused 9 → Fixes p l₀ w₀ v₀ r l₀ w v
+-- ---- over any table
+pub is-table : (p : Program) (b : Bool) → b ≡ valid p → not b ≡ false → valid p ≡ true
+is-table p b e h = sym e ∙ not-false b h
+
+pub few-members : (p : Program) (w : ℕ) → w ≡ vocabulary p → w ≤ 64 → vocabulary p ≤ 64
+few-members p w e h = omega arith
+
+module _ (p : Program) (l₀ w₀ v₀ w v : List ℕ) (b : Bool) (is : b ≡ valid p) where
+  pub no-table : (r : FixpointAnswer) → not b ≡ true → r ≡ refused 9 → length w ≡ length w₀ → length v ≡ length v₀ → Fixes p l₀ w₀ v₀ r l₀ w v
   unfolding answerOf exitOf refusal lowest
-  no-table {b} r e h q = let f : valid p ≡ false = sym e ∙ not-true b h in record { says = q ∙ rw f; lists = rw f; first-length = lw; second-length = lv }
+  no-table r h q lw lv = let f : valid p ≡ false = sym is ∙ not-true b h in record { says = q ∙ rw f; lists = rw f; first-length = lw; second-length = lv }
 
-  pub fixed : {b : Bool} (m : ℕ) (r : FixpointAnswer) (l : List ℕ) → b ≡ valid p → not b ≡ false → m ≡ literalsOf p
-      → Fixpoint m (clausesFrom (p .heads) (p .bodies) (p .nafs) 0 (p .«clause_count»)) (roomOf w₀ v₀) l₀ l r → Fixes p l₀ w₀ v₀ r l w v
-  unfolding answerOf exitOf refusal lowest vocabulary transformOf found runAnswer runExit
-  fixed {b} m r l e h q f = record {
-    says = g .answer ∙ says (ltb 64 (members (literalsOf p) (clauses p))) (crowded (epistemic (literalsOf p) (literalsOf p + literalsOf p) (clauses p)) (roomOf w₀ v₀));
-    lists = g .exit ∙ lists (ltb 64 (members (literalsOf p) (clauses p))) (crowded (epistemic (literalsOf p) (literalsOf p + literalsOf p) (clauses p)) (roomOf w₀ v₀));
-    first-length = lw;
-    second-length = lv;
-  }
-    where
-      t : valid p ≡ true
-      t = sym e ∙ not-false b h
+  module _ (n : ℕ) (counts : n ≡ vocabulary p) where
+    pub too-many : (r : FixpointAnswer) → not b ≡ false → 64 < n → r ≡ refused 11 → length w ≡ length w₀ → length v ≡ length v₀ → Fixes p l₀ w₀ v₀ r l₀ w v
+    unfolding answerOf exitOf refusal lowest
+    too-many r h m q lw lv =
+        let t = is-table p b is h in
+        let f : ltb 64 (vocabulary p) ≡ true = lt-ltb 64 (vocabulary p) (omega (arith, counts)) in
+        record { says = q ∙ rw (t, f); lists = rw (t, f); first-length = lw; second-length = lv }
 
-      g : Fixpoint (literalsOf p) (clauses p) (roomOf w₀ v₀) l₀ l r
-      g = subst (λ (k : ℕ). Fixpoint k (clauses p) (roomOf w₀ v₀) l₀ l r) q (subst (λ (C : List Clause). Fixpoint m C (roomOf w₀ v₀) l₀ l r) (rows-from p) f)
+    pub fixed : (r : FixpointAnswer) (l : List ℕ) → Answered (literalsOf p) (transformOf p) (roomOf w₀ v₀) l₀ l r → not b ≡ false → n ≤ 64
+        → length w ≡ length w₀ → length v ≡ length v₀ → Fixes p l₀ w₀ v₀ r l w v
+    unfolding answerOf exitOf refusal lowest found runAnswer runExit
+    fixed r l g h m lw lv = go (crowded (transformOf p) (roomOf w₀ v₀)) refl
+      where
+        t : valid p ≡ true
+        t = is-table p b is h
 
-      says : (x y : Bool) → cond x (refused 11) (cond y (refused 12) (listed (length (found p)) (length l₀)))
-          ≡ cond (eqb (lowest ((9, not (valid p)) ∷ (11, x) ∷ (12, y) ∷ [])) 0) (listed (length (found p)) (length l₀)) (refused (lowest ((9, not (valid p)) ∷ (11, x) ∷ (12, y) ∷ [])))
-      says true y = rw t
-      says false true = rw t
-      says false false = rw t
+        f : ltb 64 (vocabulary p) ≡ false
+        f = le-ltb 64 (vocabulary p) (omega (arith, counts))
 
-      lists : (x y : Bool) → cond x l₀ (cond y l₀ (overwrite l₀ (found p)))
-          ≡ cond (eqb (lowest ((9, not (valid p)) ∷ (11, x) ∷ (12, y) ∷ [])) 0) (overwrite l₀ (found p)) l₀
-      lists true y = rw t
-      lists false true = rw t
-      lists false false = rw t
+        go : (c : Bool) → crowded (transformOf p) (roomOf w₀ v₀) ≡ c → Fixes p l₀ w₀ v₀ r l w v
+        go true c = record { says = rw c at (g .answer) ∙ rw (t, f, c); lists = rw c at (g .exit) ∙ rw (t, f, c); first-length = lw; second-length = lv }
+        go false c = record { says = rw c at (g .answer) ∙ rw (t, f, c); lists = rw c at (g .exit) ∙ rw (t, f, c); first-length = lw; second-length = lv }
 
--- what `search` is handed at the needs of the routines over a positive program
-pub ruleset answering = (listed-all, listed-some, refused-is, shorter-left, shorter-right, small-parts, refused-crowded, answered, needs)
+pub ruleset evening = (first-there, second-there, one-length, evened)
+
+pub ruleset listing-laws = (listed-all, listed-some, refused-is, shorter-left, shorter-right, parts-fit, listed-is, small-parts)
+
+-- what `search` is handed over a positive program, and over a table
+pub ruleset answering = (listing-laws, first-fits, second-fits, refused-crowded, answered, evening, needs)
+
+pub ruleset columns-laws = (names-few, clauses-few, column-fits, counted, table-over, table-fits, table-room, heads-there, bodies-there, length-replicate)
+
+pub ruleset tables = (columns-laws, table-answered, is-table, few-members, no-table, too-many, fixed, needs)

@@ -1,9 +1,9 @@
 -- Laws of the literal parts, collected and written. Assumes nothing.
-use Prim.Native.Nat.{ℕ, suc, _+_, _-_, _*_, _/_, _%_, _^_, _≤_, _<_, min}
+use Prim.Native.Nat.{ℕ, suc, _+_, _-_, _*_, _/_, _%_, _^_, _≤_, _<_}
 use borrow.Author.Needs.{needs}
 use lib.Bits.{bitAnd, and-mask}
 use lib.Dec.{eqb, lit<}
-use lib.ListN.{length, getD, take, drop, set, length-set, drop-of-length-le, length-map}
+use lib.ListN.{length, getD, take, drop, set, length-set, drop-of-length-le, length-map, length-take}
 use lib.Pow.{shl-exact, pow-pos}
 use lib.Seq.{drop-cons, length-take-le, getD-take, take-all, take-suc, set-at}
 use mathlib.Core.Bool.{Bool, true, false, cond}
@@ -12,18 +12,18 @@ use mathlib.Core.Path.{_≡_, refl, sym, ap, ap₂, _∙_, subst}
 use native.Mathlib.Nat.{one-mul}
 use native.Mathlib.Numerals.{add-one}
 use native.Mathlib.Omega.{arith}
-use Rattle.transform.specs.Listing.{literalPart, canonical}
+use Rattle.transform.specs.Listing.{literalPart, canonical, partsOf}
 use Rattle.fixpoint.specs.Overwriting.{overwrite}
 use Rattle.sets.proofs.Lists.{at-in}
 use Rattle.sets.specs.Lists.{Each, sift, Rising}
 use Rattle.sets.specs.Words.{inside}
-use Rattle.rising.proofs.Growing.{Growing, put-grown, grow-start, grow-call, grow-done}
+use Rattle.rising.proofs.Growing.{Growing, inserted-grown, grow-start, grow-call, grow-done}
 use Rattle.stages.proofs.Minimal.{sift-one, sift-none, sift-short}
 use Rattle.rising.proofs.RisingSets.{nothing-rises}
 use Rattle.stages.proofs.Selecting.{one-more, no-more}
 use Rattle.rising.proofs.Slices.{size-fits}
-use Rattle.rising.specs.RisingSets.{insertInto, addAll, gather}
-use Rattle.rising.specs.Slices.{Put, Kept}
+use Rattle.rising.specs.RisingSets.{insertInto, addAll}
+use Rattle.rising.specs.Slices.{Inserted, Prefix}
 
 pub low-is : (w m : ℕ) → m < 64 → bitAnd w (1 * 2 ^ m % 2 ^ 64 - 1) ≡ literalPart m w
 low-is w m h = ap (λ (x : ℕ). bitAnd w (x - 1)) (shl-exact 1 m 64 (lit< tt) (omega arith) ∙ one-mul (2 ^ m)) ∙ and-mask w m
@@ -52,35 +52,38 @@ unfolding addAll
 add-shorter [] l = omega arith
 add-shorter (x ∷ xs) l = let a = add-shorter xs (insertInto x l) in let b = insert-shorter x l in omega arith
 
+pub parts-few : (m : ℕ) (l : List ℕ) (count : ℕ) → length (partsOf m (take count l)) ≤ count
+parts-few m l count =
+    let a = add-shorter (map (literalPart m) (sift (canonical m) (take count l))) [] in
+    let b = length-map (sift (canonical m) (take count l)) (literalPart m) in
+    let d = sift-short (canonical m) (take count l) in
+    omega (arith, length-take count l)
+
 pub record Collecting (m : ℕ) (l : List ℕ) (count : ℕ) (xs ys : List ℕ) (n p : ℕ) : Type 0 where
   pub inside : count ≤ length l
   pub room : count ≤ length xs
   pub bits : m < 64
   pub within : p ≤ count
-  pub grows : Growing (length xs) (gather (map (literalPart m) (sift (canonical m) (take count l)))) (map (literalPart m) (sift (canonical m) (drop p (take count l)))) ys n
+  pub grows : Growing (length xs) (partsOf m (take count l)) (map (literalPart m) (sift (canonical m) (drop p (take count l)))) ys n
 
 module _ (m : ℕ) (l : List ℕ) (count : ℕ) (xs : List ℕ) where
   pub collecting-start : (count ≤ length l) × (count ≤ length xs) × (m < 64) → Collecting m l count xs xs 0 0
-  collecting-start h = record { inside = h .0; room = h .1; bits = h .2; within = omega arith; grows = grow-start xs (map (literalPart m) (sift (canonical m) (take count l))) 0 (omega arith) nothing-rises }
+  collecting-start h = record {
+    inside = h .0;
+    room = h .1;
+    bits = h .2;
+    within = omega arith;
+    grows = grow-start xs (map (literalPart m) (sift (canonical m) (take count l))) 0
+        (omega arith) nothing-rises;
+  }
 
   module _ (ys : List ℕ) (n p : ℕ) (s : Collecting m l count xs ys n p) where
-    all : List ℕ
-    all = gather (map (literalPart m) (sift (canonical m) (take count l)))
-
-    few : length (gather (map (literalPart m) (sift (canonical m) (take count l)))) ≤ count
-    few =
-        let a = add-shorter (map (literalPart m) (sift (canonical m) (take count l))) [] in
-        let b = length-map (sift (canonical m) (take count l)) (literalPart m) in
-        let d = sift-short (canonical m) (take count l) in
-        let e = length-take-le count l (s .inside) in
-        omega arith
-
     pub collecting-fits : n ≤ length ys
     collecting-fits = go (native.Mathlib.Decide.decLe n (length xs))
       where
         go : Dec (n ≤ length xs) → n ≤ length ys
         go (yes h) = omega (arith, s .grows .long)
-        go (no h) = absurd (let o = s .grows .over (omega (arith, h)) in omega (arith, few, s .room))
+        go (no h) = absurd (let o = s .grows .over (omega (arith, h)) in omega (arith, parts-few m l count, s .room))
 
     pub collecting-pre : (n ≤ length ys) × Rising (take n ys)
     collecting-pre = (collecting-fits, s .grows .rises (omega (arith, collecting-fits, s .grows .long)))
@@ -88,7 +91,8 @@ module _ (m : ℕ) (l : List ℕ) (count : ℕ) (xs : List ℕ) where
     pub collecting-long : length ys ≡ length xs
     collecting-long = s .grows .long
 
-    part : p < count → sift (canonical m) (drop p (take count l)) ≡ cond (canonical m (getD l p 0)) (getD l p 0 ∷ sift (canonical m) (drop (p + 1) (take count l))) (sift (canonical m) (drop (p + 1) (take count l)))
+    part : p < count → sift (canonical m) (drop p (take count l)) ≡ cond (canonical m (getD l p 0)) (getD l p 0 ∷ sift (canonical m) (drop (p + 1) (take count l)))
+        (sift (canonical m) (drop (p + 1) (take count l)))
     part h = ap (sift (canonical m)) (one-more l count p (s .inside) h) ∙ sift-one (canonical m) (getD l p 0) (drop (p + 1) (take count l))
 
     pub collecting-skip : (b : Bool) → p < count → b ≡ canonical m (getD l p 0) → b ≡ false → Collecting m l count xs ys n (p + 1)
@@ -97,11 +101,11 @@ module _ (m : ℕ) (l : List ℕ) (count : ℕ) (xs : List ℕ) where
       room = s .room;
       bits = s .bits;
       within = omega arith;
-      grows = subst (λ (k : List ℕ). Growing (length xs) (gather (map (literalPart m) (sift (canonical m) (take count l)))) (map (literalPart m) k) ys n)
+      grows = subst (λ (k : List ℕ). Growing (length xs) (partsOf m (take count l)) (map (literalPart m) k) ys n)
           (part h ∙ ap (λ (x : Bool). cond x (getD l p 0 ∷ sift (canonical m) (drop (p + 1) (take count l))) (sift (canonical m) (drop (p + 1) (take count l)))) (sym e ∙ y)) (s .grows);
     }
 
-    pub collecting-keep : (b : Bool) (x r : ℕ) (out : List ℕ) → p < count → b ≡ canonical m (getD l p 0) → b ≡ true → x ≡ literalPart m (getD l p 0) → Put ys out (insertInto x (take n ys)) r
+    pub collecting-keep : (b : Bool) (x r : ℕ) (out : List ℕ) → p < count → b ≡ canonical m (getD l p 0) → b ≡ true → x ≡ literalPart m (getD l p 0) → Inserted ys out (insertInto x (take n ys)) r
         → Collecting m l count xs out r (p + 1)
     unfolding addAll
     collecting-keep b x r out h e y v g = record {
@@ -109,20 +113,20 @@ module _ (m : ℕ) (l : List ℕ) (count : ℕ) (xs : List ℕ) where
       room = s .room;
       bits = s .bits;
       within = omega arith;
-      grows = grow-call (length xs) (gather (map (literalPart m) (sift (canonical m) (take count l)))) (x ∷ []) (map (literalPart m) (sift (canonical m) (drop p (take count l))))
+      grows = grow-call (length xs) (partsOf m (take count l)) (x ∷ []) (map (literalPart m) (sift (canonical m) (drop p (take count l))))
           (map (literalPart m) (sift (canonical m) (drop (p + 1) (take count l)))) ys out n r (s .grows)
           (ap (map (literalPart m)) (part h ∙ ap (λ (z : Bool). cond z (getD l p 0 ∷ sift (canonical m) (drop (p + 1) (take count l))) (sift (canonical m) (drop (p + 1) (take count l)))) (sym e ∙ y))
           ∙ ap (λ (z : ℕ). z ∷ map (literalPart m) (sift (canonical m) (drop (p + 1) (take count l)))) (sym v))
-          (omega (arith, collecting-fits, s .grows .long)) (put-grown ys out (insertInto x (take n ys)) r g);
+          (omega (arith, collecting-fits, s .grows .long)) (inserted-grown ys out (insertInto x (take n ys)) r g);
     }
 
-    pub collecting-done : count ≤ p → Kept (gather (map (literalPart m) (sift (canonical m) (take count l)))) ys n × (n ≤ count)
+    pub collecting-done : count ≤ p → Prefix (partsOf m (take count l)) ys n
     collecting-done h =
-        let d = grow-done (length xs) (gather (map (literalPart m) (sift (canonical m) (take count l)))) (map (literalPart m) (sift (canonical m) (drop p (take count l)))) ys n (s .grows)
+        let d = grow-done (length xs) (partsOf m (take count l)) (map (literalPart m) (sift (canonical m) (drop p (take count l)))) ys n (s .grows)
         (ap (map (literalPart m)) (ap (sift (canonical m)) (no-more l count p (s .inside) h) ∙ sift-none (canonical m))) in
-        let f : length (gather (map (literalPart m) (sift (canonical m) (take count l)))) ≤ length xs = omega (arith, few, s .room) in
-        let q = d .count ∙ size-fits (length xs) (gather (map (literalPart m) (sift (canonical m) (take count l)))) f in
-        (record { count = q; words = d .words f }, omega (arith, few, q))
+        let f : length (partsOf m (take count l)) ≤ length xs = omega (arith, parts-few m l count, s .room) in
+        let q = d .count ∙ size-fits (length xs) (partsOf m (take count l)) f in
+        record { count = q; words = d .words f }
 
 -- ---- the list written
 
@@ -165,40 +169,20 @@ module _ (ws : List ℕ) (count : ℕ) (xs : List ℕ) where
               ∙ ap (λ (i : ℕ). take i (take count ws) ++ drop i xs) (sym (add-one p));
         }
 
-    pub writing-full : p < count → p ≡ length ys → (p ≡ min count (length xs)) × (ys ≡ overwrite xs (take count ws))
+    pub writing-full : p < count → p ≡ length ys → ys ≡ overwrite xs (take count ws)
     unfolding overwrite
     writing-full h e =
-        let k : p ≡ length xs = e ∙ s .long in (
-          omega arith,
-          s .whole ∙ ap₂ (λ (u v : List ℕ). u ++ v) (ap (λ (i : ℕ). take i (take count ws)) k)
-              (drop-of-length-le xs {i = p} (omega arith) ∙ sym (drop-of-length-le xs {i = length (take count ws)} (omega (arith, len)))),
-        )
+        let k : p ≡ length xs = e ∙ s .long in
+        s .whole ∙ ap₂ (λ (u v : List ℕ). u ++ v) (ap (λ (i : ℕ). take i (take count ws)) k)
+        (drop-of-length-le xs {i = p} (omega arith) ∙ sym (drop-of-length-le xs {i = length (take count ws)} (omega (arith, len))))
 
-    pub writing-done : count ≤ p → (p ≡ min count (length xs)) × (ys ≡ overwrite xs (take count ws))
+    pub writing-done : count ≤ p → ys ≡ overwrite xs (take count ws)
     unfolding overwrite
     writing-done h =
-        let k : p ≡ length (take count ws) = omega (arith, len, s .within) in (
-          omega (arith, s .within, s .room),
-          s .whole ∙ ap₂ (λ (u v : List ℕ). u ++ v)
-              (take-all p (take count ws) (omega arith) ∙ sym (take-all (length xs) (take count ws) (omega (arith, s .room)))) (ap (λ (i : ℕ). drop i xs) k),
-        )
+        let k : p ≡ length (take count ws) = omega (arith, len, s .within) in
+        s .whole ∙ ap₂ (λ (u v : List ℕ). u ++ v)
+        (take-all p (take count ws) (omega arith) ∙ sym (take-all (length xs) (take count ws) (omega (arith, s .room)))) (ap (λ (i : ℕ). drop i xs) k)
 
-pub ruleset collecting = (
-  low-is,
-  low-one,
-  canonical-is,
-  collecting-start,
-  collecting-fits,
-  collecting-pre,
-  collecting-long,
-  collecting-skip,
-  collecting-keep,
-  collecting-done,
-  writing-start,
-  writing-small,
-  writing-there,
-  writing-next,
-  writing-full,
-  writing-done,
-  needs,
-)
+pub ruleset parts-laws = (low-is, low-one, canonical-is, collecting-start, collecting-fits, collecting-pre, collecting-long, collecting-skip, collecting-keep, collecting-done)
+
+pub ruleset collecting = (parts-laws, writing-start, writing-small, writing-there, writing-next, writing-full, writing-done, needs)

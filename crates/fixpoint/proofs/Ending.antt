@@ -16,8 +16,8 @@ use Rattle.stages.specs.Run.{ending, EndsRun}
 use Rattle.stages.proofs.Bridge.{stage-same}
 use Rattle.stages.proofs.Run.{run-ends}
 use Rattle.stages.proofs.Minimal.{alike-words}
-use Rattle.transform.specs.Transform.{epistemic, members}
-use Rattle.transform.proofs.Theory.{transformed, vocabularySize, epistemic-is, members-are}
+use Rattle.transform.specs.Transform.{kappaFrom, members}
+use Rattle.transform.proofs.Theory.{transformed, vocabularySize, kappa-is, members-are}
 use Rattle.fixpoint.specs.Answer.{literalsOf, vocabulary, transformOf}
 use Rattle.fixpoint.proofs.Theorem.{heads}
 
@@ -31,8 +31,8 @@ module _ (m : ℕ) (C : List Clause) (small : m ≤ 64) (under : Each (Below m) 
       let h : W ≤ 64 = subst (λ k. k ≤ 64) (sym (members-are m C small under)) fits in
       run-ends (transformed m P) W (stage-same (transformed m P) (program m P) (alike-words (program m P) (heads m C under h)) (W + 1) (rest m P (small-tagged m 0 C) (W + 1) (omega arith)))
 
-  clauses-end : EndsRun (epistemic m (m + m) C) (members m C) (ending (epistemic m (m + m) C))
-  clauses-end = subst (λ (Q : List WordRule). EndsRun Q (members m C) (ending Q)) (sym (epistemic-is m C small under))
+  clauses-end : EndsRun (kappaFrom m (m + m) C) (members m C) (ending (kappaFrom m (m + m) C))
+  clauses-end = subst (λ (Q : List WordRule). EndsRun Q (members m C) (ending Q)) (sym (kappa-is m C small under))
       (subst (λ (W : ℕ). EndsRun (transformed m (taggedFrom m 0 C)) W (ending (transformed m (taggedFrom m 0 C)))) (members-are m C small under) theory-ends)
 
 -- the run of a valid table whose W is at most 64

@@ -5,4 +5,3 @@ pub mod Ending
 pub mod Size
 pub mod Collecting
 pub mod Answering
-pub mod Rules

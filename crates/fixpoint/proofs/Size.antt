@@ -5,21 +5,19 @@ use mathlib.Core.Bool.{Bool, true, false, cond, _&&_}
 use mathlib.Core.List.{List, [], _∷_, _++_, map, flatMap}
 use Prim.Native.Nat.{ℕ, zero, suc, _+_, _-_, _*_, _^_, _≤_, _<_}
 use native.Mathlib.Decide.{decLe}
-use native.Mathlib.Nat.{mul-add, mul-one, add-mul, one-mul, zero-mul, mul-le-mul-left, mul-le-mul-right, le-trans, le-of-eq}
+use native.Mathlib.Nat.{mul-add, mul-one, add-mul, one-mul, zero-mul, mul-le-mul-left, mul-le-mul-right, le-trans, le-of-eq, lt-of-lt-of-le}
 use native.Mathlib.Omega.{arith}
 use lib.Dec.{T, leb, leb→le, eqb}
-use lib.ListN.{length, length-append}
-use Rattle.sets.specs.Lists.{Each, below}
-use Rattle.sets.specs.Words.{bit}
+use lib.Count.{ones-le}
+use lib.Pow.{pow-mono}
+use lib.ListN.{length, length-append, length-map}
+use Rattle.sets.specs.Lists.{Each}
 use Rattle.sets.proofs.Tests.{T-and-l, T-and-r}
-use Rattle.sets.proofs.Lists.{length-below}
 use Rattle.program.specs.Clauses.{Clause, Below}
-use Rattle.epistemic.proofs.Masks.{unmask}
 use Rattle.rising.specs.Literals.{literals}
 use Rattle.operator.specs.Operator.{WordRule}
-use Rattle.stages.proofs.Minimal.{sift-short}
-use Rattle.transform.specs.Transform.{Stand, numbered, rule, clauseB, clauseC, clauseD, rewritten, becomes, standIns, epistemic, allStandIns, members}
-use Rattle.transform.proofs.Theory.{literals-unmask}
+use Rattle.transform.specs.Transform.{Stand, numbered, rule, clauseB, clauseC, clauseD, rewritten, becomes, standIns, kappaFrom, allStandIns, members}
+use Rattle.transform.proofs.Emitting.{literals-length}
 
 -- ---- how many clauses the transform makes
 
@@ -32,18 +30,13 @@ joined-short f k (x ∷ l) h =
     let e : suc (length l) * k ≡ length l * k + k = ap (λ n. n * k) (sym (native.Mathlib.Numerals.add-one (length l))) ∙ add-mul (length l) 1 k ∙ ap (λ n. length l * k + n) (one-mul k) in
     omega (arith, length-append (f x) (flatMap f l))
 
-length-map : {A B : Type 0} (f : A → B) (l : List A) → length (map f l) ≡ length l
-length-map f [] = refl
-length-map f (x ∷ l) = ap suc (length-map f l)
-
 length-numbered : (s : ℕ) (l : List ℕ) → length (numbered s l) ≡ length l
 unfolding numbered
 length-numbered s [] = refl
 length-numbered s (x ∷ l) = ap suc (length-numbered (s + 1) l)
 
 few-literals : (m w : ℕ) → m ≤ 64 → w < 2 ^ m → length (literals w) ≤ m
-unfolding unmask
-few-literals m w h k = let e = ap length (literals-unmask m w h k) in let s = sift-short (bit w) (below m) in omega (arith, length-below m)
+few-literals m w h k = let e = literals-length w (lt-of-lt-of-le k (pow-mono h)) in let o = ones-le m w k in omega arith
 
 clauseD-short : (p q : Stand) → length (clauseD p q) ≤ 1
 clauseD-short p q = go (eqb (p .literal) (q .literal)) (rule (p .at ∷ []) (p .literal ∷ q .at ∷ []))
@@ -55,30 +48,36 @@ clauseD-short p q = go (eqb (p .literal) (q .literal)) (rule (p .at ∷ []) (p .
 rewritten-short : (m h f : ℕ) (S : List Stand) (N B : List ℕ) → length S ≡ h → length N ≡ f → h ≤ m → f ≤ m → length (rewritten m S N B) ≤ 1 + h * (m + m + 1)
 unfolding rewritten
 rewritten-short m h f S N B eh ef hm fm =
-    let b = length-map clauseB S in
-    let c = joined-short (λ (p : Stand). map (clauseC (p .at)) N) f S (λ p. le-of-eq (length-map (clauseC (p .at)) N ∙ ef)) in
+    let b = length-map S clauseB in
+    let c = joined-short (λ (p : Stand). map (clauseC (p .at)) N) f S (λ p. le-of-eq (length-map N (clauseC (p .at)) ∙ ef)) in
     let d1 : (p : Stand) → length (flatMap (clauseD p) S) ≤ h = λ p. le-trans (joined-short (clauseD p) 1 S (clauseD-short p)) (le-of-eq (mul-one (length S) ∙ eh)) in
     let d = joined-short (λ p. flatMap (clauseD p) S) h S d1 in
     let c′ : length S * f ≤ h * m = le-trans (le-of-eq (ap (λ k. k * f) eh)) (mul-le-mul-left h fm) in
     let d′ : length S * h ≤ h * m = le-trans (le-of-eq (ap (λ k. k * h) eh)) (mul-le-mul-left h hm) in
     let e : h * (m + m + 1) ≡ h * m + h * m + h = mul-add h (m + m) 1 ∙ ap₂ (λ x y. x + y) (mul-add h m m) (mul-one h) in
-    omega (arith, length-append (map clauseB S) (flatMap (λ (p : Stand). map (clauseC (p .at)) N) S ++ flatMap (λ p. flatMap (clauseD p) S) S), length-append (flatMap (λ (p : Stand). map (clauseC (p .at)) N) S) (flatMap (λ p. flatMap (clauseD p) S) S))
+    omega (
+      arith,
+      length-append (map clauseB S) (flatMap (λ (p : Stand). map (clauseC (p .at)) N) S ++ flatMap (λ p. flatMap (clauseD p) S) S),
+      length-append (flatMap (λ (p : Stand). map (clauseC (p .at)) N) S) (flatMap (λ p. flatMap (clauseD p) S) S),
+    )
 
 becomes-short : (m s : ℕ) (c : Clause) → m ≤ 64 → Below m c → length (becomes m s c) ≤ 1 + standIns c * (m + m + 1)
 unfolding becomes standIns
 becomes-short m s c h b = go (eqb (c .naf) 0)
   where
-    go : (z : Bool) → length (cond z (rule (literals (c .head)) (literals (c .body)) ∷ []) (rewritten m (numbered s (literals (c .head))) (literals (c .naf)) (literals (c .body)))) ≤ 1 + cond z 0 (length (literals (c .head))) * (m + m + 1)
+    go : (z : Bool) → length (cond z (rule (literals (c .head)) (literals (c .body)) ∷ []) (rewritten m (numbered s (literals (c .head))) (literals (c .naf)) (literals (c .body))))
+        ≤ 1 + cond z 0 (length (literals (c .head))) * (m + m + 1)
     go true = omega arith
-    go false = rewritten-short m (length (literals (c .head))) (length (literals (c .naf))) (numbered s (literals (c .head))) (literals (c .naf)) (literals (c .body)) (length-numbered s (literals (c .head))) refl (few-literals m (c .head) h (b .heads)) (few-literals m (c .naf) h (b .nafs))
+    go false = rewritten-short m (length (literals (c .head))) (length (literals (c .naf))) (numbered s (literals (c .head))) (literals (c .naf)) (literals (c .body))
+        (length-numbered s (literals (c .head))) refl (few-literals m (c .head) h (b .heads)) (few-literals m (c .naf) h (b .nafs))
 
-epistemic-short : (m s : ℕ) (C : List Clause) → m ≤ 64 → Each (Below m) C → length (epistemic m s C) ≤ length C + allStandIns C * (m + m + 1)
-unfolding epistemic allStandIns
-epistemic-short m s [] h b = omega arith
-epistemic-short m s (c ∷ C) h b =
+kappa-short : (m s : ℕ) (C : List Clause) → m ≤ 64 → Each (Below m) C → length (kappaFrom m s C) ≤ length C + allStandIns C * (m + m + 1)
+unfolding kappaFrom allStandIns
+kappa-short m s [] h b = omega arith
+kappa-short m s (c ∷ C) h b =
     let x = becomes-short m s c h (b c (inl refl)) in
-    let y = epistemic-short m (s + standIns c) C h (λ d i. b d (inr i)) in
-    omega (arith, length-append (becomes m s c) (epistemic m (s + standIns c) C), add-mul (standIns c) (allStandIns C) (m + m + 1))
+    let y = kappa-short m (s + standIns c) C h (λ d i. b d (inr i)) in
+    omega (arith, length-append (becomes m s c) (kappaFrom m (s + standIns c) C), add-mul (standIns c) (allStandIns C) (m + m + 1))
 
 -- (64 - x)(x + 1) for every x up to 64, computed
 unfoldable allUpTo : (ℕ → Bool) → ℕ → Bool
@@ -98,11 +97,11 @@ computed : T (allUpTo (λ x. leb ((64 - x) * (x + 1)) 1056) 64)
 unfolding allUpTo
 computed = tt
 
-pub program-short : (m : ℕ) (C : List Clause) → Each (Below m) C → length C ≤ 64 → members m C ≤ 64 → length (epistemic m (m + m) C) ≤ 1120
+pub program-short : (m : ℕ) (C : List Clause) → Each (Below m) C → length C ≤ 64 → members m C ≤ 64 → length (kappaFrom m (m + m) C) ≤ 1120
 unfolding members
 program-short m C b n f =
     let h : m ≤ 64 = omega arith in
-    let x = epistemic-short m (m + m) C h b in
+    let x = kappa-short m (m + m) C h b in
     let y : allStandIns C * (m + m + 1) ≤ (64 - (m + m)) * (m + m + 1) = mul-le-mul-right (m + m + 1) (omega arith) in
     let z : (64 - (m + m)) * (m + m + 1) ≤ 1056 = leb→le ((64 - (m + m)) * (m + m + 1)) 1056 (all-at (λ x. leb ((64 - x) * (x + 1)) 1056) 64 (m + m) computed (omega arith)) in
     omega arith

@@ -18,8 +18,8 @@ use Rattle.stable.proofs.Decides.{StableWord}
 use Rattle.stages.proofs.Minimal.{rests, wordRule, minimal-out, minimal-in}
 use Rattle.rising.proofs.RisingSets.{in-addAll, addAll-in, addAll-rising, nothing-rises}
 use Rattle.rising.specs.Literals.{literals}
-use Rattle.stages.specs.Minimal.{satisfies, minimals, minimalModels}
-use Rattle.stages.specs.Run.{ending, finalStage}
+use Rattle.stages.specs.Minimal.{minimalModels}
+use Rattle.stages.specs.Run.{ending}
 
 -- ---- the theorem
 
@@ -37,9 +37,10 @@ module _ (m : ℕ) (C : List Clause) (below : Each (Below m) C) (fits : vocabula
   pub listing-sound : (I : ℕ) → I ∈ listing m (transformed m (taggedFrom m 0 C)) → (I < 2 ^ m) × StableWord C I
   unfolding listing minimalModels transformed canonical
   listing-sound I i =
-      let k = ⊎-elim (λ j. j) (λ b. absurd b) (in-addAll I (map (literalPart m) (sift (canonical m) (minimals (sift (satisfies (map wordRule (program m P))) (finalStage (map wordRule (program m P))))))) [] i) in
-      let s = map-in (literalPart m) I (sift (canonical m) (minimals (sift (satisfies (map wordRule (program m P))) (finalStage (map wordRule (program m P)))))) k in
-      let c = out-sift (canonical m) (minimals (sift (satisfies (map wordRule (program m P))) (finalStage (map wordRule (program m P))))) (s .0) (s .1) in
+      let k = ⊎-elim (λ j. j) (λ b. absurd b) (in-addAll I (map (literalPart m)
+      (sift (canonical m) (minimalModels (map wordRule (program m P))))) [] i) in
+      let s = map-in (literalPart m) I (sift (canonical m) (minimalModels (map wordRule (program m P)))) k in
+      let c = out-sift (canonical m) (minimalModels (map wordRule (program m P))) (s .0) (s .1) in
       let h : I < 2 ^ m = subst (λ z. z < 2 ^ m) (sym (s .2)) (mod-lt (s .0) (pow-pos m)) in (
         h,
         theorem m C below I h (ending (map wordRule (program m P))) (rests (program m P) heads) .1
@@ -50,7 +51,8 @@ module _ (m : ℕ) (C : List Clause) (below : Each (Below m) C) (fits : vocabula
   unfolding listing minimalModels transformed canonical
   listing-complete I h w =
       let a = theorem m C below I h (ending (map wordRule (program m P))) (rests (program m P) heads) .0 w in
-      addAll-in I (map (literalPart m) (sift (canonical m) (minimals (sift (satisfies (map wordRule (program m P))) (finalStage (map wordRule (program m P))))))) []
-      (inl (subst (λ z. z ∈ map (literalPart m) (sift (canonical m) (minimals (sift (satisfies (map wordRule (program m P))) (finalStage (map wordRule (program m P))))))) (a .1 .literals)
-      (in-map (literalPart m) (a .0) (sift (canonical m) (minimals (sift (satisfies (map wordRule (program m P))) (finalStage (map wordRule (program m P))))))
-      (in-sift (canonical m) (minimals (sift (satisfies (map wordRule (program m P))) (finalStage (map wordRule (program m P))))) (a .0) (minimal-in (program m P) heads (a .0) (a .1 .minimal)) (a .1 .canonical)))))
+      addAll-in I (map (literalPart m) (sift (canonical m) (minimalModels (map wordRule (program m P))))) []
+      (inl (subst (λ z. z ∈ map (literalPart m) (sift (canonical m) (minimalModels (map wordRule (program m P))))) (a .1 .literals)
+      (in-map (literalPart m) (a .0) (sift (canonical m) (minimalModels (map wordRule (program m P))))
+      (in-sift (canonical m) (minimalModels (map wordRule (program m P))) (a .0)
+      (minimal-in (program m P) heads (a .0) (a .1 .minimal)) (a .1 .canonical)))))

@@ -6,12 +6,12 @@ use Prim.Native.Nat.{ℕ, _+_, _*_, min}
 use lib.Dec.{eqb, leb, ltb}
 use lib.ListN.{length}
 use Rattle.program.specs.declared.Program.{Program}
-use Rattle.program.specs.Clauses.{Clause, clauses}
+use Rattle.program.specs.Clauses.{clauses}
 use Rattle.program.specs.Valid.{valid}
 use Rattle.program.specs.Refusals.{lowest}
 use Rattle.operator.specs.Operator.{WordRule}
 use Rattle.stages.specs.Run.{crowded}
-use Rattle.transform.specs.Transform.{epistemic, members}
+use Rattle.transform.specs.Transform.{kappaFrom, members}
 use Rattle.program.specs.declared.Outcome.the-variants.{Complete, Full, Refused}
 use Rattle.fixpoint.specs.declared.FixpointAnswer.{FixpointAnswer}
 use Rattle.transform.specs.Listing.{listing}
@@ -25,6 +25,11 @@ listed count places = record { outcome = cond (leb count places) Complete Full; 
 unfoldable pub refused : ℕ → FixpointAnswer
 refused n = record { outcome = Refused n; written = 0 }
 
+-- the answer and the list at exit where the words l are to be listed
+pub record Listed (l xs out : List ℕ) (r : FixpointAnswer) : Type 0 where
+  pub answer : r ≡ listed (length l) (length xs)
+  pub exit : out ≡ overwrite xs l
+
 -- ---- over a positive program of words whose m lowest members are the literals
 unfoldable pub runAnswer : ℕ → List WordRule → ℕ → ℕ → FixpointAnswer
 runAnswer m Q room places = cond (crowded Q room) (refused 12) (listed (length (listing m Q)) places)
@@ -36,11 +41,6 @@ pub record Answered (m : ℕ) (Q : List WordRule) (room : ℕ) (xs out : List �
   pub answer : r ≡ runAnswer m Q room (length xs)
   pub exit : out ≡ runExit m Q room xs
 
--- ---- over clauses and m literals: refusal 11 first
-pub record Fixpoint (m : ℕ) (C : List Clause) (room : ℕ) (xs out : List ℕ) (r : FixpointAnswer) : Type 0 where
-  pub answer : r ≡ cond (ltb 64 (members m C)) (refused 11) (runAnswer m (epistemic m (m + m) C) room (length xs))
-  pub exit : out ≡ cond (ltb 64 (members m C)) xs (runExit m (epistemic m (m + m) C) room xs)
-
 -- ---- the fixpoint of a table
 -- the literals of its names; "The vocabulary has W members: 4n and one for each stand-in."
 abbrev pub literalsOf : Program → ℕ
@@ -51,7 +51,7 @@ vocabulary p = members (literalsOf p) (clauses p)
 
 -- its transform: literals at 0 to 2n - 1, K of each 2n higher, stand-ins from 4n on
 unfoldable pub transformOf : Program → List WordRule
-transformOf p = epistemic (literalsOf p) (literalsOf p + literalsOf p) (clauses p)
+transformOf p = kappaFrom (literalsOf p) (literalsOf p + literalsOf p) (clauses p)
 
 -- the words that it lists, were there room and places for all
 unfoldable pub found : Program → List ℕ

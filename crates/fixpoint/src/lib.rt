@@ -1,18 +1,20 @@
 // The fixpoint of the epistemic transform: stages formed on words, their canonical minimal models, the literal parts of these.
 ghost use mathlib.Core.Path.{_≡_};
-ghost use mathlib.Core.List.{List, map};
+ghost use mathlib.Core.Bool.{true};
 ghost use Prim.Native.Nat.{_*_, _^_, _≤_, _<_, min};
 ghost use lib.ListN.{length, take};
-ghost use Rattle.sets.specs.Lists.{Each, sift};
-ghost use Rattle.rising.specs.RisingSets.{gather};
-ghost use Rattle.rising.specs.Slices.{Kept};
-ghost use Rattle.operator.specs.Operator.{rulesFrom};
-ghost use Rattle.transform.specs.Emit.{clausesFrom, Book};
-ghost use Rattle.transform.specs.Listing.{literalPart, canonical};
+ghost use Rattle.sets.specs.Lists.{Each, tabulate};
+ghost use Rattle.program.specs.Valid.{valid};
+ghost use Rattle.rising.specs.Slices.{Prefix};
+ghost use Rattle.operator.specs.Operator.{ruleAt};
+ghost use Rattle.transform.specs.Listing.{literalPart, canonical, partsOf};
 ghost use Rattle.fixpoint.specs.Overwriting.{overwrite};
-ghost use Rattle.fixpoint.specs.Answer.{listed, refused, Answered, Fixpoint, Fixes};
+ghost use Rattle.fixpoint.specs.Answer.{listed, refused, Listed, Answered, literalsOf, vocabulary, transformOf, roomOf, Fixes};
 use program::Outcome;
 use program::Program;
+
+// The members that a word has room for.
+const MOST_MEMBERS: u32 = 64;
 
 // What a fixpoint answers; its outcome is never spent.
 pub struct FixpointAnswer {
@@ -39,7 +41,7 @@ fn is_canonical(w: u64, m: u32) -> bool
 // Forms in `set` the set of the literal parts of the canonical ones among the first `count` words.
 fn collect(list: &[u64], count: usize, m: u32, set: &mut [u64]) -> usize
     requires { ⌜ (count ≤ length (now list)) × (count ≤ length (now set)) × (m < 64) ⌝ }
-    ensures { λ r. ⌜ Kept (gather (map (literalPart m) (sift (canonical m) (take count (now (list .entry)))))) (now (set .exit)) r × (r ≤ count) ⌝ }
+    ensures { λ r. ⌜ Prefix (partsOf m (take count (now (list .entry)))) (now (set .exit)) r ⌝ }
 {
     let mut n: usize = 0;
     let mut p: usize = 0;
@@ -62,19 +64,18 @@ fn narrow(x: u64) -> u32
 }
 
 // Writes the first `count` words into the list, as many as fit.
-fn write_models(words: &[u64], count: usize, models: &mut [u32]) -> usize
+fn write_models(words: &[u64], count: usize, models: &mut [u32])
     requires { ⌜ (count ≤ length (now words)) × Each (λ x. x < 2 ^ 32) (take count (now words)) ⌝ }
-    ensures { λ r. ⌜ (r ≡ min count (length (now (models .entry)))) × (now (models .exit) ≡ overwrite (now (models .entry)) (take count (now (words .entry)))) ⌝ }
+    ensures { λ r. ⌜ now (models .exit) ≡ overwrite (now (models .entry)) (take count (now (words .entry))) ⌝ }
 {
     let mut p: usize = 0;
     while p < count {
         if p == models.len() {
-            return p;
+            return;
         }
         models[p] = narrow(words[p]);
         p += 1;
     }
-    p
 }
 
 // The answer where `count` words were to be listed in so many places.
@@ -111,27 +112,42 @@ fn shorter(x: usize, y: usize) -> usize
     y
 }
 
+// Lists the literal parts of the canonical ones among the first `count` words, which it forms in `set`.
+fn list_parts(
+    list: &[u64],
+    count: usize,
+    m: u32,
+    set: &mut [u64],
+    models: &mut [u32],
+) -> FixpointAnswer
+    requires { ⌜ (count ≤ length (now list)) × (count ≤ length (now set)) × (m ≤ 32) ⌝ }
+    ensures { λ r. ⌜ Listed (partsOf m (take count (now (list .entry)))) (now (models .entry)) (now (models .exit)) r ⌝ }
+{
+    let k = collect(list, count, m, set);
+    let a = answer(k, models.len());
+    write_models(set, k, models);
+    a
+}
+
 // Lists the models of a positive program whose m lowest members are the literals, with two working slices of one length.
 fn list_even<'a>(
     heads: &'a [u64],
     bodies: &'a [u64],
     count: usize,
     m: u32,
+    models: &mut [u32],
     first: &mut [u64],
     second: &mut [u64],
-    models: &mut [u32],
 ) -> FixpointAnswer
     requires { ⌜ (count ≤ length (now heads)) × (count ≤ length (now bodies)) × (m ≤ 32) × (length (now second) ≡ length (now first)) ⌝ }
-    ensures { λ r. ⌜ Answered m (rulesFrom (now (heads .entry)) (now (bodies .entry)) 0 count) (length (now (first .entry))) (now (models .entry)) (now (models .exit)) r ⌝ }
+    ensures { λ r. ⌜ Answered m (tabulate (ruleAt (now (heads .entry)) (now (bodies .entry))) count) (length (now (first .entry))) (now (models .entry)) (now (models .exit)) r ⌝ }
 {
     let room = first.len();
     let n = stages::minimal_models(heads, bodies, count, first, second);
     if room < n {
         return refuse(program::TOO_LITTLE_ROOM);
     }
-    let k = collect(first, n, m, second);
-    let w = write_models(second, k, models);
-    answer(k, models.len())
+    list_parts(first, n, m, second, models)
 }
 
 // The same with any two working slices; their room is the shorter length.
@@ -140,12 +156,12 @@ fn list_models<'a>(
     bodies: &'a [u64],
     count: usize,
     m: u32,
+    models: &mut [u32],
     first: &mut [u64],
     second: &mut [u64],
-    models: &mut [u32],
 ) -> FixpointAnswer
     requires { ⌜ (count ≤ length (now heads)) × (count ≤ length (now bodies)) × (m ≤ 32) ⌝ }
-    ensures { λ r. ⌜ Answered m (rulesFrom (now (heads .entry)) (now (bodies .entry)) 0 count) (min (length (now (first .entry))) (length (now (second .entry)))) (now (models .entry)) (now (models .exit)) r ⌝ }
+    ensures { λ r. ⌜ Answered m (tabulate (ruleAt (now (heads .entry)) (now (bodies .entry))) count) (roomOf (now (first .entry)) (now (second .entry))) (now (models .entry)) (now (models .exit)) r ⌝ }
 {
     let room = shorter(first.len(), second.len());
     list_even(
@@ -153,65 +169,68 @@ fn list_models<'a>(
         bodies,
         count,
         m,
+        models,
         &mut first[..room],
         &mut second[..room],
-        models,
     )
 }
 
-// The fixpoint of a valid table's clauses over m literals.
-fn fix_clauses<'a>(
-    m: u32,
-    heads: &'a [u32],
-    bodies: &'a [u32],
-    nafs: &'a [u32],
-    count: usize,
+fn literal_count(atoms: usize) -> u32
+    requires { ⌜ atoms ≤ 12 ⌝ }
+    ensures { λ r. ⌜ (r ≡ 2 * atoms) × (r ≤ 24) ⌝ }
+{
+    (2 * atoms) as u32
+}
+
+// W: how many members the vocabulary of a valid table has.
+fn member_count(p: Program) -> u32
+    requires { ⌜ valid p ≡ true ⌝ }
+    ensures { λ r. ⌜ r ≡ vocabulary p ⌝ }
+{
+    let m = literal_count(p.atom_count);
+    let stands = transform::count_stand_ins(&p.heads, &p.bodies, &p.nafs, p.clause_count);
+    m + m + stands
+}
+
+// The fixpoint of a valid table whose vocabulary fits a word.
+fn fix_table(
+    p: Program,
+    models: &mut [u32],
     first: &mut [u64],
     second: &mut [u64],
-    models: &mut [u32],
 ) -> FixpointAnswer
-    requires { ⌜ Book m (now heads) (now bodies) (now nafs) count ⌝ }
-    ensures { λ r. ⌜ Fixpoint m (clausesFrom (now (heads .entry)) (now (bodies .entry)) (now (nafs .entry)) 0 count) (min (length (now (first .entry))) (length (now (second .entry)))) (now (models .entry)) (now (models .exit)) r ⌝ }
+    requires { ⌜ (valid p ≡ true) × (vocabulary p ≤ 64) ⌝ }
+    ensures { λ r. ⌜ Answered (literalsOf p) (transformOf p) (roomOf (now (first .entry)) (now (second .entry))) (now (models .entry)) (now (models .exit)) r ⌝ }
 {
-    let stands = transform::count_stand_ins(heads, bodies, nafs, count);
-    if 64 < m + m + stands {
-        return refuse(program::TOO_MANY_MEMBERS);
-    }
+    let m = literal_count(p.atom_count);
     let mut hs = [0u64; 1120];
     let mut bs = [0u64; 1120];
-    let n = transform::transform(m, heads, bodies, nafs, count, &mut hs, &mut bs);
-    list_models(&hs, &bs, n, m, first, second, models)
+    let n = transform::transform(
+        m,
+        &p.heads,
+        &p.bodies,
+        &p.nafs,
+        p.clause_count,
+        &mut hs,
+        &mut bs,
+    );
+    list_models(&hs, &bs, n, m, models, first, second)
 }
 
 // The p-stable models by the fixpoint of the epistemic transform, with a lent list and two lent working slices.
 pub fn fixpoint(
     p: Program,
     models: &mut [u32],
-    work: &mut [u64],
-    more_work: &mut [u64],
+    first: &mut [u64],
+    second: &mut [u64],
 ) -> FixpointAnswer
-    ensures { λ r. ⌜ Fixes p (now (models .entry)) (now (work .entry)) (now («more_work» .entry)) r (now (models .exit)) (now (work .exit)) (now («more_work» .exit)) ⌝ }
+    ensures { λ r. ⌜ Fixes p (now (models .entry)) (now (first .entry)) (now (second .entry)) r (now (models .exit)) (now (first .exit)) (now (second .exit)) ⌝ }
 {
     if !validity::is_valid(p) {
         return refuse(program::INVALID_PROGRAM);
     }
-    let m = literal_count(p.atom_count);
-    let count = p.clause_count;
-    fix_clauses(
-        m,
-        &p.heads,
-        &p.bodies,
-        &p.nafs,
-        count,
-        work,
-        more_work,
-        models,
-    )
-}
-
-fn literal_count(atoms: usize) -> u32
-    requires { ⌜ atoms ≤ 12 ⌝ }
-    ensures { λ r. ⌜ r ≡ 2 * atoms ⌝ }
-{
-    (2 * atoms) as u32
+    if MOST_MEMBERS < member_count(p) {
+        return refuse(program::TOO_MANY_MEMBERS);
+    }
+    fix_table(p, models, first, second)
 }

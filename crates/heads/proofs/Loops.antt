@@ -1,25 +1,25 @@
 -- Laws of words and of the loops over the heads. Assumes nothing.
 use mathlib.Core.Path.{_≡_, refl, sym, ap, ap₂, _∙_, subst}
-use mathlib.Core.Bool.{Bool, true, false, not, cond, _||_}
+use mathlib.Core.Bool.{Bool, true, false, not, cond}
 use mathlib.Core.List.{List, [], _∷_, _++_}
 use mathlib.Core.Logic.{_⊎_, inl, ⊎-elim}
 use Prim.Native.Nat.{ℕ, _+_, _-_, _*_, _^_, _%_, _≤_, _<_}
 use native.Mathlib.Nat.{one-mul}
 use native.Mathlib.Omega.{arith}
-use lib.Bits.{bitAnd, bitOr, and-le-l, and-le-r, or-zero-l, or-zero-r}
+use lib.Bits.{bitAnd, bitOr, and-le-l, or-zero-l, or-zero-r}
 use lib.Count.{trailingZeros}
 use lib.Dec.{T, lit<}
 use lib.ListN.{length, getD, set}
 use lib.Seq.{getD-set-same, getD-set-other}
 use lib.Pow.{shl-exact}
 use borrow.Author.Tests.{eq-eqb, ne-eqb}
-use Rattle.sets.specs.Lists.{_∈_, anyOf, sift, upFrom, onward}
-use Rattle.sets.specs.Words.{bit, apart, meets}
-use Rattle.sets.proofs.Lists.{onward-step, onward-done, upFrom-ext, upFrom-add}
+use Rattle.sets.specs.Lists.{_∈_, sift, upFrom, onward, tabulate}
+use Rattle.sets.specs.Words.{bit, meets}
+use Rattle.sets.proofs.Lists.{onward-start, onward-step, onward-done, upFrom-ext, upFrom-add}
 use Rattle.sets.proofs.Tests.{T-true}
 use Rattle.sets.proofs.Digits.{bits-ext, meets-bits}
-use Rattle.rising.proofs.Literals.{low-lt, literals-low, lit-out}
-use Rattle.heads.specs.Heads.{Literal, headsFrom, offeredBy, without}
+use Rattle.rising.proofs.Literals.{literals-low, lit-out}
+use Rattle.heads.specs.Heads.{Literal, headAt, offeredBy, without}
 use Rattle.sets.proofs.Branches.{in-or, or-left, or-right, in-pow}
 
 -- ---- words
@@ -33,12 +33,6 @@ without-is a b = refl
 pub part-within : (a b : ℕ) → bitAnd a b ≤ a
 part-within a b = and-le-l a b
 
-pub slot-small : (x : ℕ) → bitAnd x 63 < 64
-slot-small x = omega (arith, and-le-r x 63)
-
-pub low-less : (s : ℕ) → (s ≡ 0 → ⊥) → bitAnd s (s - 1) < s
-low-less s n = low-lt s (omega (arith, n))
-
 -- the bit at t is set
 pub literal-tested : (s t : ℕ) → t < 64 → (bitAnd s (1 * 2 ^ t % 2 ^ 64) ≡ 0 → ⊥) → Literal s t
 literal-tested s t l n =
@@ -50,36 +44,25 @@ literal-lowest s t h b e =
     let m = lit-out s (trailingZeros 64 s) (subst (λ (l : List ℕ). trailingZeros 64 s ∈ l) (sym (literals-low s (λ z. omega arith) b)) (inl refl)) in
     record { small = omega (arith, m .0); member = ap (bit s) e ∙ T-true (bit s (trailingZeros 64 s)) (m .1) }
 
--- ---- one head more
+-- ---- the first n heads
 module _ (ws : List ℕ) (n : ℕ) where
-  pub heads-one : (k : ℕ) → k < n → headsFrom ws n k ≡ getD ws k 0 ∷ headsFrom ws n (k + 1)
-  unfolding headsFrom
-  heads-one k h = onward-step (λ i. getD ws i 0) n k h
-
-  pub heads-none : (k : ℕ) → n ≤ k → headsFrom ws n k ≡ []
-  unfolding headsFrom
-  heads-none k h = onward-done (λ i. getD ws i 0) n k h
-
   -- the first n words alone count
-  pub heads-same : (vs : List ℕ) → ((p : ℕ) → p < n → getD vs p 0 ≡ getD ws p 0) → headsFrom vs n 0 ≡ headsFrom ws n 0
-  unfolding headsFrom onward
-  heads-same vs f = upFrom-ext (λ i. getD vs i 0) (λ i. getD ws i 0) (n - 0) 0 (λ p l. f p (omega arith))
+  pub heads-same : (vs : List ℕ) → ((p : ℕ) → p < n → getD vs p 0 ≡ getD ws p 0) → tabulate (headAt vs) n ≡ tabulate (headAt ws) n
+  unfolding tabulate
+  heads-same vs f = upFrom-ext (headAt vs) (headAt ws) n 0 (λ p l. f p (omega arith))
 
   -- a head at the end
-  pub heads-more : (h : ℕ) → n < length ws → headsFrom (set ws n h) (n + 1) 0 ≡ headsFrom ws n 0 ++ (h ∷ [])
-  unfolding headsFrom onward upFrom
+  pub heads-more : (h : ℕ) → n < length ws → tabulate (headAt (set ws n h)) (n + 1) ≡ tabulate (headAt ws) n ++ (h ∷ [])
+  unfolding tabulate upFrom
   heads-more h l =
-      let a : n + 1 - 0 ≡ n + 1 = omega arith in
-      let b : n - 0 ≡ n = omega arith in
       let c : 0 + n ≡ n = omega arith in
-      ap (λ (m : ℕ). upFrom (λ i. getD (set ws n h) i 0) m 0) a ∙ upFrom-add (λ i. getD (set ws n h) i 0) n 1 0
-      ∙ ap₂ (λ (x : List ℕ) (y : ℕ). x ++ (y ∷ []))
-      (upFrom-ext (λ i. getD (set ws n h) i 0) (λ i. getD ws i 0) n 0 (λ p q. getD-set-other ws n p h 0 (λ e. omega (arith, e))) ∙ ap (λ (m : ℕ). upFrom (λ i. getD ws i 0) m 0) (sym b))
-      (ap (λ (m : ℕ). getD (set ws n h) m 0) c ∙ getD-set-same ws n h 0 l)
+      upFrom-add (headAt (set ws n h)) n 1 0 ∙ ap₂ (λ (x : List ℕ) (y : ℕ). x ++ (y ∷ []))
+      (upFrom-ext (headAt (set ws n h)) (headAt ws) n 0 (λ p q. getD-set-other ws n p h 0 (λ e. omega (arith, e))))
+      (ap (headAt (set ws n h)) c ∙ getD-set-same ws n h 0 l)
 
 -- ---- the literals of the heads before k
 pub record Joining (ws : List ℕ) (n all k : ℕ) : Type 0 where
-  pub whole : bitOr all (offeredBy (headsFrom ws n k)) ≡ offeredBy (headsFrom ws n 0)
+  pub whole : bitOr all (offeredBy (onward (headAt ws) n k)) ≡ offeredBy (tabulate (headAt ws) n)
 
 or-assoc : (a b c : ℕ) → bitOr (bitOr a b) c ≡ bitOr a (bitOr b c)
 or-assoc a b c = bits-ext (bitOr (bitOr a b) c) (bitOr a (bitOr b c))
@@ -92,56 +75,33 @@ or-assoc a b c = bits-ext (bitOr (bitOr a b) c) (bitOr a (bitOr b c))
 
 module _ (ws : List ℕ) (n : ℕ) where
   pub join-start : Joining ws n 0 0
-  join-start = record { whole = or-zero-l (offeredBy (headsFrom ws n 0)) }
+  join-start = record { whole = or-zero-l (offeredBy (onward (headAt ws) n 0)) ∙ ap offeredBy (onward-start (headAt ws) n) }
 
   module _ (all k : ℕ) (s : Joining ws n all k) where
     pub join-step : k < n → Joining ws n (bitOr all (getD ws k 0)) (k + 1)
     unfolding offeredBy
-    join-step h = record { whole = or-assoc all (getD ws k 0) (offeredBy (headsFrom ws n (k + 1))) ∙ ap (λ (l : List ℕ). bitOr all (offeredBy l)) (sym (heads-one ws n k h)) ∙ s .whole }
+    join-step h = record { whole = or-assoc all (getD ws k 0) (offeredBy (onward (headAt ws) n (k + 1))) ∙ ap (λ (l : List ℕ). bitOr all (offeredBy l)) (sym (onward-step (headAt ws) n k h)) ∙ s .whole }
 
-    pub join-done : n ≤ k → all ≡ offeredBy (headsFrom ws n 0)
+    pub join-done : n ≤ k → all ≡ offeredBy (tabulate (headAt ws) n)
     unfolding offeredBy
-    join-done h = sym (ap (λ (l : List ℕ). bitOr all (offeredBy l)) (heads-none ws n k h) ∙ or-zero-r all) ∙ s .whole
-
--- ---- no head before k misses v
-pub record Missing (ws : List ℕ) (n v k : ℕ) : Type 0 where
-  pub same : anyOf (apart v) (headsFrom ws n k) ≡ anyOf (apart v) (headsFrom ws n 0)
-
-module _ (ws : List ℕ) (n v : ℕ) where
-  pub miss-start : Missing ws n v 0
-  miss-start = record { same = refl }
-
-  module _ (k : ℕ) (s : Missing ws n v k) where
-    here : k < n → (b : Bool) → apart v (getD ws k 0) ≡ b → _||_ b (anyOf (apart v) (headsFrom ws n (k + 1))) ≡ anyOf (apart v) (headsFrom ws n 0)
-    unfolding anyOf
-    here h b e = sym (ap (λ (x : Bool). _||_ x (anyOf (apart v) (headsFrom ws n (k + 1)))) e) ∙ ap (anyOf (apart v)) (sym (heads-one ws n k h)) ∙ s .same
-
-    pub miss-hit : k < n → bitAnd v (getD ws k 0) ≡ 0 → true ≡ anyOf (apart v) (headsFrom ws n 0)
-    miss-hit h e = here h true (eq-eqb (bitAnd v (getD ws k 0)) 0 e)
-
-    pub miss-on : k < n → (bitAnd v (getD ws k 0) ≡ 0 → ⊥) → Missing ws n v (k + 1)
-    miss-on h e = record { same = here h false (ne-eqb (bitAnd v (getD ws k 0)) 0 e) }
-
-    pub miss-done : n ≤ k → false ≡ anyOf (apart v) (headsFrom ws n 0)
-    unfolding anyOf
-    miss-done h = sym (ap (anyOf (apart v)) (heads-none ws n k h)) ∙ s .same
+    join-done h = sym (ap (λ (l : List ℕ). bitOr all (offeredBy l)) (onward-done (headAt ws) n k h) ∙ or-zero-r all) ∙ s .whole
 
 -- ---- m heads before k meet x
 pub record Meeting (ws : List ℕ) (n x m k : ℕ) : Type 0 where
   pub few : m ≤ k
   pub short : n ≤ 64
-  pub whole : m + length (sift (meets x) (headsFrom ws n k)) ≡ length (sift (meets x) (headsFrom ws n 0))
+  pub whole : m + length (sift (meets x) (onward (headAt ws) n k)) ≡ length (sift (meets x) (tabulate (headAt ws) n))
 
 module _ (ws : List ℕ) (n x : ℕ) where
   pub meet-start : n ≤ 64 → Meeting ws n x 0 0
-  meet-start h = record { few = omega arith; short = h; whole = omega arith }
+  meet-start h = record { few = omega arith; short = h; whole = omega (arith, ap (λ (l : List ℕ). length (sift (meets x) l)) (onward-start (headAt ws) n)) }
 
   module _ (m k : ℕ) (s : Meeting ws n x m k) where
     one : k < n → (b : Bool) → meets x (getD ws k 0) ≡ b
-        → m + length (cond b (getD ws k 0 ∷ sift (meets x) (headsFrom ws n (k + 1))) (sift (meets x) (headsFrom ws n (k + 1)))) ≡ length (sift (meets x) (headsFrom ws n 0))
+        → m + length (cond b (getD ws k 0 ∷ sift (meets x) (onward (headAt ws) n (k + 1))) (sift (meets x) (onward (headAt ws) n (k + 1)))) ≡ length (sift (meets x) (tabulate (headAt ws) n))
     unfolding sift
-    one h b e = sym (ap (λ (y : Bool). m + length (cond y (getD ws k 0 ∷ sift (meets x) (headsFrom ws n (k + 1))) (sift (meets x) (headsFrom ws n (k + 1))))) e)
-        ∙ ap (λ (l : List ℕ). m + length (sift (meets x) l)) (sym (heads-one ws n k h)) ∙ s .whole
+    one h b e = sym (ap (λ (y : Bool). m + length (cond y (getD ws k 0 ∷ sift (meets x) (onward (headAt ws) n (k + 1))) (sift (meets x) (onward (headAt ws) n (k + 1))))) e)
+        ∙ ap (λ (l : List ℕ). m + length (sift (meets x) l)) (sym (onward-step (headAt ws) n k h)) ∙ s .whole
 
     pub meet-not : k < n → bitAnd x (getD ws k 0) ≡ 0 → Meeting ws n x m (k + 1)
     meet-not h e = record { few = omega (arith, s .few); short = s .short; whole = one h false (ap not (eq-eqb (bitAnd x (getD ws k 0)) 0 e)) }
@@ -149,6 +109,6 @@ module _ (ws : List ℕ) (n x : ℕ) where
     pub meet-one : k < n → (bitAnd x (getD ws k 0) ≡ 0 → ⊥) → Meeting ws n x (m + 1) (k + 1)
     meet-one h e = record { few = omega (arith, s .few); short = s .short; whole = omega (arith, one h true (ap not (ne-eqb (bitAnd x (getD ws k 0)) 0 e))) }
 
-    pub meet-done : n ≤ k → m ≡ length (sift (meets x) (headsFrom ws n 0))
+    pub meet-done : n ≤ k → m ≡ length (sift (meets x) (tabulate (headAt ws) n))
     unfolding sift
-    meet-done h = omega (arith, ap (λ (l : List ℕ). length (sift (meets x) l)) (heads-none ws n k h), s .whole)
+    meet-done h = omega (arith, ap (λ (l : List ℕ). length (sift (meets x) l)) (onward-done (headAt ws) n k h), s .whole)

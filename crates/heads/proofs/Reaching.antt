@@ -9,17 +9,16 @@ use lib.Bits.{bitAnd, and-le-l, or-zero-l}
 use lib.Dec.{T, eqb}
 use lib.ListN.{getD}
 use borrow.Author.Tests.{eqb-true, eq-eqb}
-use Rattle.sets.specs.Lists.{_∈_, anyOf}
+use Rattle.sets.specs.Lists.{_∈_, anyOf, onward, tabulate}
 use Rattle.sets.specs.Words.{bit, put}
-use Rattle.sets.proofs.Lists.{some-in, in-some, in-flatMap, flatMap-in}
+use Rattle.sets.proofs.Lists.{some-in, in-some, in-flatMap, flatMap-in, onward-start, onward-step, onward-done}
 use Rattle.sets.proofs.Tests.{dec, clash, true-T}
 use Rattle.sets.proofs.Digits.{bit-zero}
 use Rattle.rising.specs.Literals.{literals}
 use Rattle.rising.proofs.Literals.{lit-in, lit-out, literals-none}
-use Rattle.heads.specs.Heads.{Literal, headsFrom, picks, without}
+use Rattle.heads.specs.Heads.{Literal, headAt, picks, without}
 use Rattle.sets.proofs.Branches.{in-both, both-in, in-pow, pow-in}
 use Rattle.heads.proofs.Tests.{in-without, without-in}
-use Rattle.heads.proofs.Loops.{heads-one, heads-none}
 use Rattle.heads.proofs.Picks.{picks-chosen}
 
 -- ---- a word in a list
@@ -34,26 +33,26 @@ not-in w L n = ⊎-elim (λ t. absurd (n (is-in w L t))) (λ f. f) (dec (anyOf (
 
 -- what the literals of `rest` lead to, at the head k
 abbrev pub tried : List ℕ → ℕ → ℕ → ℕ → ℕ → List ℕ
-tried ws n k j rest = flatMap (λ t. picks (headsFrom ws n (k + 1)) (put t j)) (literals rest)
+tried ws n k j rest = flatMap (λ t. picks (onward (headAt ws) n (k + 1)) (put t j)) (literals rest)
 
 -- w is among the sets exactly where a literal of `rest` leads to it
 pub record Trying (ws : List ℕ) (n w k j rest : ℕ) : Type 0 where
   pub before : k < n
-  pub to : w ∈ picks (headsFrom ws n k) j → w ∈ tried ws n k j rest
-  pub of : w ∈ tried ws n k j rest → w ∈ picks (headsFrom ws n k) j
+  pub to : w ∈ picks (onward (headAt ws) n k) j → w ∈ tried ws n k j rest
+  pub of : w ∈ tried ws n k j rest → w ∈ picks (onward (headAt ws) n k) j
 
 or-false : (b : Bool) → _||_ b false ≡ b
 or-false true = refl
 or-false false = refl
 
 module _ (ws : List ℕ) (n w k j : ℕ) where
-  pub try-end : k ≡ n → eqb w j ≡ anyOf (eqb w) (picks (headsFrom ws n k) j)
+  pub try-end : k ≡ n → eqb w j ≡ anyOf (eqb w) (picks (onward (headAt ws) n k) j)
   unfolding picks anyOf
-  try-end e = sym (ap (λ (H : List ℕ). anyOf (eqb w) (picks H j)) (heads-none ws n k (omega arith)) ∙ or-false (eqb w j))
+  try-end e = sym (ap (λ (H : List ℕ). anyOf (eqb w) (picks H j)) (onward-done (headAt ws) n k (omega arith)) ∙ or-false (eqb w j))
 
-  one : k < n → picks (headsFrom ws n k) j ≡ tried ws n k j (getD ws k 0)
+  one : k < n → picks (onward (headAt ws) n k) j ≡ tried ws n k j (getD ws k 0)
   unfolding picks
-  one h = ap (λ (H : List ℕ). picks H j) (heads-one ws n k h)
+  one h = ap (λ (H : List ℕ). picks H j) (onward-step (headAt ws) n k h)
 
   pub try-start : (n ≤ 64) × (k ≤ n) → (k ≡ n → ⊥) → Trying ws n w k j (bitAnd (getD ws k 0) w)
   try-start pre ne =
@@ -61,29 +60,29 @@ module _ (ws : List ℕ) (n w k j : ℕ) where
       record {
         before = h;
         to = λ m.
-            let s = flatMap-in (λ t. picks (headsFrom ws n (k + 1)) (put t j)) w (literals (getD ws k 0)) (subst (λ (L : List ℕ). w ∈ L) (one h) m) in
+            let s = flatMap-in (λ t. picks (onward (headAt ws) n (k + 1)) (put t j)) w (literals (getD ws k 0)) (subst (λ (L : List ℕ). w ∈ L) (one h) m) in
             let l = lit-out (getD ws k 0) (s .0) (s .1) in
-            in-flatMap (λ t. picks (headsFrom ws n (k + 1)) (put t j)) (s .0) w (literals (bitAnd (getD ws k 0) w))
-            (lit-in (bitAnd (getD ws k 0) w) (s .0) (l .0) (both-in (getD ws k 0) w (s .0) (l .1) (picks-chosen (headsFrom ws n (k + 1)) j w (s .0) (s .2)))) (s .2);
+            in-flatMap (λ t. picks (onward (headAt ws) n (k + 1)) (put t j)) (s .0) w (literals (bitAnd (getD ws k 0) w))
+            (lit-in (bitAnd (getD ws k 0) w) (s .0) (l .0) (both-in (getD ws k 0) w (s .0) (l .1) (picks-chosen (onward (headAt ws) n (k + 1)) j w (s .0) (s .2)))) (s .2);
         of = λ m.
-            let s = flatMap-in (λ t. picks (headsFrom ws n (k + 1)) (put t j)) w (literals (bitAnd (getD ws k 0) w)) m in
+            let s = flatMap-in (λ t. picks (onward (headAt ws) n (k + 1)) (put t j)) w (literals (bitAnd (getD ws k 0) w)) m in
             let l = lit-out (bitAnd (getD ws k 0) w) (s .0) (s .1) in
-            subst (λ (L : List ℕ). w ∈ L) (sym (one h)) (in-flatMap (λ t. picks (headsFrom ws n (k + 1)) (put t j)) (s .0) w (literals (getD ws k 0))
+            subst (λ (L : List ℕ). w ∈ L) (sym (one h)) (in-flatMap (λ t. picks (onward (headAt ws) n (k + 1)) (put t j)) (s .0) w (literals (getD ws k 0))
             (lit-in (getD ws k 0) (s .0) (l .0) (in-both (getD ws k 0) w (s .0) (l .1) .0)) (s .2));
       }
 
   module _ (rest : ℕ) (s : Trying ws n w k j rest) where
-    pub try-none : rest ≡ 0 → false ≡ anyOf (eqb w) (picks (headsFrom ws n k) j)
+    pub try-none : rest ≡ 0 → false ≡ anyOf (eqb w) (picks (onward (headAt ws) n k) j)
     unfolding flatMap
-    try-none z = sym (not-in w (picks (headsFrom ws n k) j) (λ m. subst (λ (l : List ℕ). w ∈ flatMap (λ t. picks (headsFrom ws n (k + 1)) (put t j)) l) (ap literals z ∙ literals-none) (s .to m)))
+    try-none z = sym (not-in w (picks (onward (headAt ws) n k) j) (λ m. subst (λ (l : List ℕ). w ∈ flatMap (λ t. picks (onward (headAt ws) n (k + 1)) (put t j)) l) (ap literals z ∙ literals-none) (s .to m)))
 
-    module _ (t v : ℕ) (l : Literal rest t) (p : v ≡ put t j) (b : Bool) (e : b ≡ anyOf (eqb w) (picks (headsFrom ws n (k + 1)) v)) where
-      same : b ≡ anyOf (eqb w) (picks (headsFrom ws n (k + 1)) (put t j))
-      same = e ∙ ap (λ (x : ℕ). anyOf (eqb w) (picks (headsFrom ws n (k + 1)) x)) p
+    module _ (t v : ℕ) (l : Literal rest t) (p : v ≡ put t j) (b : Bool) (e : b ≡ anyOf (eqb w) (picks (onward (headAt ws) n (k + 1)) v)) where
+      same : b ≡ anyOf (eqb w) (picks (onward (headAt ws) n (k + 1)) (put t j))
+      same = e ∙ ap (λ (x : ℕ). anyOf (eqb w) (picks (onward (headAt ws) n (k + 1)) x)) p
 
-      pub try-hit : b ≡ true → true ≡ anyOf (eqb w) (picks (headsFrom ws n k) j)
-      try-hit y = sym (in-is w (picks (headsFrom ws n k) j) (s .of (in-flatMap (λ t. picks (headsFrom ws n (k + 1)) (put t j)) t w (literals rest)
-          (lit-in rest t (l .small) (true-T (bit rest t) (l .member))) (is-in w (picks (headsFrom ws n (k + 1)) (put t j)) (sym same ∙ y)))))
+      pub try-hit : b ≡ true → true ≡ anyOf (eqb w) (picks (onward (headAt ws) n k) j)
+      try-hit y = sym (in-is w (picks (onward (headAt ws) n k) j) (s .of (in-flatMap (λ t. picks (onward (headAt ws) n (k + 1)) (put t j)) t w (literals rest)
+          (lit-in rest t (l .small) (true-T (bit rest t) (l .member))) (is-in w (picks (onward (headAt ws) n (k + 1)) (put t j)) (sym same ∙ y)))))
 
       pub try-miss : (u rest′ : ℕ) → b ≡ false → u ≡ put t 0 → rest′ ≡ without rest u → Trying ws n w k j rest′
       try-miss u rest′ y q d =
@@ -91,17 +90,17 @@ module _ (ws : List ℕ) (n w k j : ℕ) where
           record {
             before = s .before;
             to = λ m.
-                let r = flatMap-in (λ t. picks (headsFrom ws n (k + 1)) (put t j)) w (literals rest) (s .to m) in
+                let r = flatMap-in (λ t. picks (onward (headAt ws) n (k + 1)) (put t j)) w (literals rest) (s .to m) in
                 let g = lit-out rest (r .0) (r .1) in
-                in-flatMap (λ t. picks (headsFrom ws n (k + 1)) (put t j)) (r .0) w (literals rest′)
+                in-flatMap (λ t. picks (onward (headAt ws) n (k + 1)) (put t j)) (r .0) w (literals rest′)
                 (lit-in rest′ (r .0) (g .0) (subst (λ (x : ℕ). T (bit x (r .0))) (sym d) (without-in rest u (r .0) (g .1)
                 (λ x.
                 let z : r .0 ≡ t = in-pow t (r .0) (subst (λ (y : ℕ). T (bit y (r .0))) is x) in
-                clash (anyOf (eqb w) (picks (headsFrom ws n (k + 1)) (put t j))) (in-is w (picks (headsFrom ws n (k + 1)) (put t j)) (subst (λ (y : ℕ). w ∈ picks (headsFrom ws n (k + 1)) (put y j)) z (r .2))) (sym same ∙ y))))) (r .2);
+                clash (anyOf (eqb w) (picks (onward (headAt ws) n (k + 1)) (put t j))) (in-is w (picks (onward (headAt ws) n (k + 1)) (put t j)) (subst (λ (y : ℕ). w ∈ picks (onward (headAt ws) n (k + 1)) (put y j)) z (r .2))) (sym same ∙ y))))) (r .2);
             of = λ m.
-                let r = flatMap-in (λ t. picks (headsFrom ws n (k + 1)) (put t j)) w (literals rest′) m in
+                let r = flatMap-in (λ t. picks (onward (headAt ws) n (k + 1)) (put t j)) w (literals rest′) m in
                 let g = lit-out rest′ (r .0) (r .1) in
-                s .of (in-flatMap (λ t. picks (headsFrom ws n (k + 1)) (put t j)) (r .0) w (literals rest)
+                s .of (in-flatMap (λ t. picks (onward (headAt ws) n (k + 1)) (put t j)) (r .0) w (literals rest)
                 (lit-in rest (r .0) (g .0) (in-without rest u (r .0) (subst (λ (x : ℕ). T (bit x (r .0))) d (g .1)) .0)) (r .2));
           }
 
@@ -115,3 +114,7 @@ module _ (ws : List ℕ) (n w k j : ℕ) where
 
     pub try-within : (k + 1 ≤ n)
     try-within = omega (arith, s .before)
+
+-- from the first head on
+pub try-whole : (ws : List ℕ) (n w j : ℕ) {b : Bool} → b ≡ anyOf (eqb w) (picks (onward (headAt ws) n 0) j) → b ≡ anyOf (eqb w) (picks (tabulate (headAt ws) n) j)
+try-whole ws n w j e = e ∙ ap (λ (H : List ℕ). anyOf (eqb w) (picks H j)) (onward-start (headAt ws) n)

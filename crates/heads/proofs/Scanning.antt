@@ -17,8 +17,8 @@ use Rattle.sets.proofs.Tests.{T?, not-T-false}
 use Rattle.sets.proofs.Digits.{bit-zero, bits-ext}
 use Rattle.rising.specs.Growing.{Grown}
 use Rattle.rising.specs.RisingSets.{insertInto, addAll}
-use Rattle.rising.specs.Slices.{Put}
-use Rattle.rising.proofs.Growing.{Growing, put-grown, grown-as, grown-held, grow-start, grow-call, grow-done, grow-over}
+use Rattle.rising.specs.Slices.{Inserted}
+use Rattle.rising.proofs.Growing.{Growing, inserted-grown, grown-as, grown-held, grow-start, grow-call, grow-done, grow-over}
 use Rattle.rising.proofs.RisingSets.{addAll-same}
 use Rattle.heads.specs.Heads.{picks, offeredBy, without, between}
 use Rattle.sets.proofs.Branches.{in-or, or-left, or-right, both-in, in-both, from-out, from-in, branches}
@@ -34,20 +34,20 @@ ones-none = refl
 
 -- ---- the tests that leave a branch
 module _ (H : List ℕ) (j free w : ℕ) where
-  pub barren-missed : (r : Bool) → r ≡ anyOf (apart (bitOr w free)) H → r ≡ true → sift (between free w) (picks H j) ≡ []
-  barren-missed r e t = nothing (between free w) (picks H j) (λ x m b.
+  pub infeasible-missed : (r : Bool) → r ≡ anyOf (apart (bitOr w free)) H → r ≡ true → sift (between free w) (picks H j) ≡ []
+  infeasible-missed r e t = nothing (between free w) (picks H j) (λ x m b.
       let s = some-in (apart (bitOr w free)) H (sym e ∙ t) in
       let q = picks-met H j x (s .0) m (s .1) in
       let i = is-between free w x b in
       let z : bitAnd (bitOr w free) (s .0) ≡ 0 = eqb-true _ 0 (s .2) in
       subst T (bit-zero (q .0)) (subst (λ (y : ℕ). T (bit y (q .0))) z (both-in (bitOr w free) (s .0) (q .0) (i .within (q .0) (q .2)) (q .1))))
 
-  pub barren-not : false ≡ true → sift (between free w) (picks H j) ≡ []
-  barren-not e = absurd (let z : _≡_ {A = ℕ} 0 1 = cc in omega arith)
+  pub infeasible-not : false ≡ true → sift (between free w) (picks H j) ≡ []
+  infeasible-not e = absurd (let z : _≡_ {A = ℕ} 0 1 = cc in omega arith)
 
   -- more literals than the heads can put in
-  pub barren-many : (x y : ℕ) (r : Bool) → y ≡ without (bitAnd x w) j → r ≡ ltb (length (sift (meets y) H)) (ones y) → r ≡ true → sift (between free w) (picks H j) ≡ []
-  barren-many x y r d e t = nothing (between free w) (picks H j) (λ v m b.
+  pub infeasible-many : (x y : ℕ) (r : Bool) → y ≡ without (bitAnd x w) j → r ≡ ltb (length (sift (meets y) H)) (ones y) → r ≡ true → sift (between free w) (picks H j) ≡ []
+  infeasible-many x y r d e t = nothing (between free w) (picks H j) (λ v m b.
       let i = is-between free w v b in
       let l : length (sift (meets y) H) < ones y = ltb-true _ _ (sym e ∙ t) in
       let in-y : (k : ℕ) → T (bit y k) → T (bit (bitAnd x w) k) × (T (bit j k) → ⊥) = λ k u. in-without (bitAnd x w) j k (subst (λ (z : ℕ). T (bit z k)) d u) in
@@ -57,49 +57,49 @@ module _ (H : List ℕ) (j free w : ℕ) where
       omega (arith, c, ap ones a, ap ones z ∙ ones-none))
 
 -- ---- what is put in
-module _ (L xs : List ℕ) (held : ℕ) where
-  pub grown-none : (p : ℕ → Bool) → held ≤ length xs → sift p L ≡ [] → Grown (length xs) (addAll (sift p L) (take held xs)) xs held
+module _ (L xs : List ℕ) (members : ℕ) where
+  pub grown-none : (p : ℕ → Bool) → members ≤ length xs → sift p L ≡ [] → Grown (length xs) (addAll (sift p L) (take members xs)) xs members
   unfolding addAll
-  grown-none p h e = grown-as (length xs) (take held xs) (addAll (sift p L) (take held xs)) xs held
-      (ap (λ (l : List ℕ). addAll l (take held xs)) e) (grown-held xs held h)
+  grown-none p h e = grown-as (length xs) (take members xs) (addAll (sift p L) (take members xs)) xs members
+      (ap (λ (l : List ℕ). addAll l (take members xs)) e) (grown-held xs members h)
 
   module _ (w : ℕ) where
-    pub one-not : (b : Bool) → held ≤ length xs → b ≡ anyOf (eqb w) L → b ≡ false → Grown (length xs) (addAll (sift (eqb w) L) (take held xs)) xs held
+    pub one-not : (b : Bool) → members ≤ length xs → b ≡ anyOf (eqb w) L → b ≡ false → Grown (length xs) (addAll (sift (eqb w) L) (take members xs)) xs members
     one-not b h e f = grown-none (eqb w) h (sift-none (eqb w) L (none-each (eqb w) L (sym e ∙ f)))
 
-    pub one-put : (b : Bool) (out : List ℕ) (r : ℕ) → Rising (take held xs) → b ≡ anyOf (eqb w) L → b ≡ true → Put xs out (insertInto w (take held xs)) r
-        → Grown (length xs) (addAll (sift (eqb w) L) (take held xs)) out r
+    pub one-put : (b : Bool) (out : List ℕ) (r : ℕ) → Rising (take members xs) → b ≡ anyOf (eqb w) L → b ≡ true → Inserted xs out (insertInto w (take members xs)) r
+        → Grown (length xs) (addAll (sift (eqb w) L) (take members xs)) out r
     unfolding addAll
-    one-put b out r rise e t p = grown-as (length xs) (insertInto w (take held xs)) (addAll (sift (eqb w) L) (take held xs)) out r
-        (addAll-same (sift (eqb w) L) (w ∷ []) (take held xs) rise
+    one-put b out r rise e t p = grown-as (length xs) (insertInto w (take members xs)) (addAll (sift (eqb w) L) (take members xs)) out r
+        (addAll-same (sift (eqb w) L) (w ∷ []) (take members xs) rise
         (λ z m. inl (sym (eqb-true w z (sift-out (eqb w) L z m .1))))
         (λ z m. ⊎-elim
         (λ q. let s = some-in (eqb w) L (sym e ∙ t) in subst (λ (y : ℕ). y ∈ sift (eqb w) L) (sym (eqb-true w (s .0) (s .2)) ∙ sym q) (sift-in (eqb w) L (s .0) (s .1) (s .2)))
         (λ q. absurd q) m))
-        (put-grown xs out (insertInto w (take held xs)) r p)
+        (inserted-grown xs out (insertInto w (take members xs)) r p)
 
     module _ (free : ℕ) where
-      pub scan-barren : (b : Bool) → held ≤ length xs → (b ≡ true → sift (between free w) L ≡ []) → b ≡ true → Grown (length xs) (addAll (sift (between free w) L) (take held xs)) xs held
-      scan-barren b h f t = grown-none (between free w) h (f t)
+      pub scan-infeasible : (b : Bool) → members ≤ length xs → (b ≡ true → sift (between free w) L ≡ []) → b ≡ true → Grown (length xs) (addAll (sift (between free w) L) (take members xs)) xs members
+      scan-infeasible b h f t = grown-none (between free w) h (f t)
 
-      pub scan-one : (out : List ℕ) (r : ℕ) → Rising (take held xs) → free ≡ 0 → Grown (length xs) (addAll (sift (eqb w) L) (take held xs)) out r
-          → Grown (length xs) (addAll (sift (between free w) L) (take held xs)) out r
-      scan-one out r rise z g = grown-as (length xs) (addAll (sift (eqb w) L) (take held xs)) (addAll (sift (between free w) L) (take held xs)) out r
-          (addAll-same (sift (between free w) L) (sift (eqb w) L) (take held xs) rise
+      pub scan-one : (out : List ℕ) (r : ℕ) → Rising (take members xs) → free ≡ 0 → Grown (length xs) (addAll (sift (eqb w) L) (take members xs)) out r
+          → Grown (length xs) (addAll (sift (between free w) L) (take members xs)) out r
+      scan-one out r rise z g = grown-as (length xs) (addAll (sift (eqb w) L) (take members xs)) (addAll (sift (between free w) L) (take members xs)) out r
+          (addAll-same (sift (between free w) L) (sift (eqb w) L) (take members xs) rise
           (λ x m. let s = out-sift (between free w) L x m in sift-in (eqb w) L x (s .0) (eq-eqb w x (between-one free w x z (is-between free w x (s .1)))))
           (λ x m. let s = sift-out (eqb w) L x m in let e = eqb-true w x (s .1) in
           in-sift (between free w) L x (s .0) (subst (λ (y : ℕ). T (between free w y)) e (between-is free w w (one-between free w)))))
           g
 
-      module _ (t : ℕ) (h : Highest free t) (rise : Rising (take held xs)) (fits : held ≤ length xs) where
+      module _ (t : ℕ) (h : Highest free t) (rise : Rising (take members xs)) (fits : members ≤ length xs) where
         abbrev out-part : List ℕ
         out-part = sift (between (free - t) w) L
 
         abbrev in-part : List ℕ
         in-part = sift (between (free - t) (bitOr w t)) L
 
-        halves : addAll (sift (between free w) L) (take held xs) ≡ addAll (out-part ++ in-part) (take held xs)
-        halves = addAll-same (sift (between free w) L) (out-part ++ in-part) (take held xs) rise
+        halves : addAll (sift (between free w) L) (take members xs) ≡ addAll (out-part ++ in-part) (take members xs)
+        halves = addAll-same (sift (between free w) L) (out-part ++ in-part) (take members xs) rise
             (λ x m.
             let s = out-sift (between free w) L x m in
             ⊎-elim
@@ -111,29 +111,29 @@ module _ (L xs : List ℕ) (held : ℕ) where
             (λ a. let s = out-sift (between (free - t) (bitOr w t)) L x a in in-sift (between free w) L x (s .0) (between-is free w x (from-in free t h w x (is-between (free - t) (bitOr w t) x (s .1)))))
             (in-++ x out-part in-part m))
 
-        module _ (ys : List ℕ) (m : ℕ) (g : Grown (length xs) (addAll (sift (between (free - t) w) L) (take held xs)) ys m) where
-          half : Growing (length xs) (addAll (out-part ++ in-part) (take held xs)) in-part ys m
-          half = grow-call (length xs) (addAll (out-part ++ in-part) (take held xs)) out-part (out-part ++ in-part) in-part xs ys held m
-              (grow-start xs (out-part ++ in-part) held fits rise) refl fits g
+        module _ (ys : List ℕ) (m : ℕ) (g : Grown (length xs) (addAll (sift (between (free - t) w) L) (take members xs)) ys m) where
+          half : Growing (length xs) (addAll (out-part ++ in-part) (take members xs)) in-part ys m
+          half = grow-call (length xs) (addAll (out-part ++ in-part) (take members xs)) out-part (out-part ++ in-part) in-part xs ys members m
+              (grow-start xs (out-part ++ in-part) members fits rise) refl fits g
 
-          pub scan-over : length ys < m → Grown (length xs) (addAll (sift (between free w) L) (take held xs)) ys m
-          scan-over o = grown-as (length xs) (addAll (out-part ++ in-part) (take held xs)) (addAll (sift (between free w) L) (take held xs)) ys m halves
-              (grow-over (length xs) (addAll (out-part ++ in-part) (take held xs)) in-part ys m half (omega (arith, g .long)))
+          pub scan-over : length ys < m → Grown (length xs) (addAll (sift (between free w) L) (take members xs)) ys m
+          scan-over o = grown-as (length xs) (addAll (out-part ++ in-part) (take members xs)) (addAll (sift (between free w) L) (take members xs)) ys m halves
+              (grow-over (length xs) (addAll (out-part ++ in-part) (take members xs)) in-part ys m half (omega (arith, g .long)))
 
           pub scan-rises : m ≤ length ys → Rising (take m ys)
           scan-rises o = half .rises (omega (arith, g .long))
 
           pub scan-both : (out : List ℕ) (r : ℕ) → m ≤ length ys → Grown (length ys) (addAll (sift (between (free - t) (bitOr w t)) L) (take m ys)) out r
-              → Grown (length xs) (addAll (sift (between free w) L) (take held xs)) out r
-          scan-both out r o f = grown-as (length xs) (addAll (out-part ++ in-part) (take held xs)) (addAll (sift (between free w) L) (take held xs)) out r halves
-              (grow-done (length xs) (addAll (out-part ++ in-part) (take held xs)) [] out r
-              (grow-call (length xs) (addAll (out-part ++ in-part) (take held xs)) in-part in-part [] ys out m r half (sym (append-nil in-part)) (omega (arith, g .long)) f) refl)
+              → Grown (length xs) (addAll (sift (between free w) L) (take members xs)) out r
+          scan-both out r o f = grown-as (length xs) (addAll (out-part ++ in-part) (take members xs)) (addAll (sift (between free w) L) (take members xs)) out r halves
+              (grow-done (length xs) (addAll (out-part ++ in-part) (take members xs)) [] out r
+              (grow-call (length xs) (addAll (out-part ++ in-part) (take members xs)) in-part in-part [] ys out m r half (sym (append-nil in-part)) (omega (arith, g .long)) f) refl)
 
 -- ---- all of them: they hold j and have no other literal but of the heads
-pub scan-all : (H xs : List ℕ) (held j u free : ℕ) (out : List ℕ) (r : ℕ) → Rising (take held xs) → u ≡ offeredBy H → free ≡ without u j
-    → Grown (length xs) (addAll (sift (between free j) (picks H j)) (take held xs)) out r → Grown (length xs) (addAll (picks H j) (take held xs)) out r
-scan-all H xs held j u free out r rise e f g = grown-as (length xs) (addAll (sift (between free j) (picks H j)) (take held xs)) (addAll (picks H j) (take held xs)) out r
-    (addAll-same (picks H j) (sift (between free j) (picks H j)) (take held xs) rise
+pub scan-all : (H xs : List ℕ) (members j u free : ℕ) (out : List ℕ) (r : ℕ) → Rising (take members xs) → u ≡ offeredBy H → free ≡ without u j
+    → Grown (length xs) (addAll (sift (between free j) (picks H j)) (take members xs)) out r → Grown (length xs) (addAll (picks H j) (take members xs)) out r
+scan-all H xs members j u free out r rise e f g = grown-as (length xs) (addAll (sift (between free j) (picks H j)) (take members xs)) (addAll (picks H j) (take members xs)) out r
+    (addAll-same (picks H j) (sift (between free j) (picks H j)) (take members xs) rise
     (λ x m. in-sift (between free j) (picks H j) x m (between-is free j x (record {
       holds = picks-holds H j x m;
       within = λ i t. ⊎-elim

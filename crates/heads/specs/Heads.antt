@@ -5,13 +5,12 @@ use mathlib.Core.List.{List, [], _∷_, flatMap}
 use Prim.Native.Nat.{ℕ, _-_, _<_}
 use lib.Bits.{bitAnd, bitOr}
 use lib.ListN.{getD}
-use Rattle.sets.specs.Lists.{onward}
 use Rattle.sets.specs.Words.{bit, inside, put}
 use Rattle.rising.specs.Literals.{literals}
 
--- the words from the place k on, up to the place n
-unfoldable pub headsFrom : List ℕ → ℕ → ℕ → List ℕ
-headsFrom ws n k = onward (λ i. getD ws i 0) n k
+-- the head at a place of an array of words
+abbrev pub headAt : List ℕ → ℕ → ℕ
+headAt ws i = getD ws i 0
 
 -- every set made of j and one literal, chosen every way, of each head
 unfoldable pub picks : List ℕ → ℕ → List ℕ

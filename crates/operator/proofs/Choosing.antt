@@ -1,154 +1,174 @@
 -- The choices of one member, clause after clause: a head is set aside, or its literals are followed one after the other. Assumes nothing.
 use Prim.Native.Nat.{ℕ, _+_, _-_, _^_, _≤_, _<_}
 use borrow.Author.Needs.{needs}
-use borrow.Author.Tests.{not-true, not-false, ltb-true}
+use borrow.Author.Tests.{ltb-true}
 use lib.Count.{trailingZeros, ones}
 use lib.Dec.{ltb}
 use lib.ListN.{length, getD, take, set, length-set}
 use lib.Seq.{getD-set-other}
+use mir.Syntax.{w64}
+use mir.Val.{Fits}
 use mathlib.Core.Bool.{Bool, true, false, _&&_}
 use mathlib.Core.List.{List, [], _∷_, _++_, flatMap, append-assoc, append-nil}
-use mathlib.Core.Path.{_≡_, refl, sym, ap, _∙_, subst}
+use mathlib.Core.Path.{_≡_, refl, sym, ap, ap₂, _∙_, subst}
 use native.Mathlib.Omega.{arith}
-use Rattle.sets.specs.Lists.{Rising}
+use Rattle.sets.specs.Lists.{Rising, onward, tabulate}
 use Rattle.sets.specs.Words.{inside, put}
-use Rattle.sets.proofs.Tests.{both-true}
-use Rattle.rising.proofs.Growing.{Growing, grown-as, grow-start, grow-call, grow-done, grow-over}
-use Rattle.rising.proofs.Literals.{low-lt, literals-low, literals-none, trailing-lt}
+use Rattle.sets.proofs.Lists.{onward-step, onward-done}
+use Rattle.sets.proofs.Tests.{both-true, via-true, via-false}
 use Rattle.rising.specs.Growing.{Grown}
 use Rattle.rising.specs.Literals.{literals, low}
 use Rattle.rising.specs.RisingSets.{addAll}
-use Rattle.heads.specs.Heads.{headsFrom, picks}
+use Rattle.rising.proofs.Growing.{Growing, grow-start, grow-call, grow-done, grow-over}
+use Rattle.rising.proofs.Literals.{low-less, literals-low, literals-none, lowest-small}
+use Rattle.heads.specs.Heads.{headAt, picks}
 use Rattle.heads.proofs.Loops.{heads-same, heads-more}
 use Rattle.heads.proofs.Picks.{head-first}
-use Rattle.operator.proofs.Operator.{rules-none, rules-one, fired-quiet, fired-one}
-use Rattle.operator.specs.Operator.{WordRule, rulesFrom, fired, Chosen}
+use Rattle.operator.specs.Operator.{WordRule, fired, Chosen}
+use Rattle.operator.proofs.Operator.{fired-quiet, fired-one}
+
+-- ---- what the next visit asks
+
+pub next-within : (k count : ℕ) → k ≤ count → (k ≡ count → ⊥) → k + 1 ≤ count
+next-within k count h n = omega (arith, n)
+
+pub next-less : (k count t : ℕ) → count - k ≡ t → k ≤ count → (k ≡ count → ⊥) → count - (k + 1) < t
+next-less k count t e h n = omega (arith, n)
 
 pub aside-room : (h n : ℕ) (b : Bool) → b ≡ (ltb 1 (ones h) && ltb n 64) → b ≡ true → n < 64
 aside-room h n b e t = ltb-true n 64 (both-true (ltb 1 (ones h)) (ltb n 64) (sym e ∙ t) .1)
 
--- what is asked of a visit
-abbrev pub Visit : List ℕ → List ℕ → ℕ → ℕ → List ℕ → ℕ → List ℕ → ℕ → Type 0
-Visit hs bs count k ws n xs held = (count ≤ length hs) × (count ≤ length bs) × (k ≤ count) × (length ws ≡ 64) × (n ≤ 64) × (held ≤ length xs) × Rising (take held xs)
+pub aside-within : (h n : ℕ) (b : Bool) → b ≡ (ltb 1 (ones h) && ltb n 64) → b ≡ true → n + 1 ≤ 64
+aside-within h n b e t = omega (arith, aside-room h n b e t)
 
--- what is to be formed, with the heads A set aside
-abbrev pub whole : List ℕ → List ℕ → ℕ → ℕ → ℕ → ℕ → List ℕ → List ℕ
-whole hs bs count i k j A = picks (A ++ fired i (rulesFrom hs bs k (count - k))) j
+pub aside-long : (ws : List ℕ) (n h : ℕ) → length ws ≡ 64 → length (set ws n h) ≡ 64
+aside-long ws n h e = length-set ws n h ∙ e
 
--- in the loop: the head literals in `rest` are still to be followed
-pub record Choice (hs bs : List ℕ) (count i k j : ℕ) (ws : List ℕ) (n : ℕ) (xs : List ℕ) (held : ℕ) (vs ys : List ℕ) (m rest : ℕ) : Type 0 where
+-- ---- the literals in `rest` are still to be followed, each into the heads set aside and those of the clauses behind
+
+pub record Following (f : ℕ → WordRule) (count i k j : ℕ) (ws : List ℕ) (n : ℕ) (xs : List ℕ) (members : ℕ) (vs ys : List ℕ) (m rest : ℕ) : Type 0 where
   pub small : rest < 2 ^ 64
   pub same : (p : ℕ) → p < n → getD vs p 0 ≡ getD ws p 0
   pub long : length vs ≡ length ws
-  pub grows : Growing (length xs) (addAll (whole hs bs count i k j (headsFrom ws n 0)) (take held xs))
-      (flatMap (λ t. whole hs bs count i (k + 1) (put t j) (headsFrom ws n 0)) (literals rest)) ys m
+  pub grows : Growing (length xs) (addAll (picks (tabulate (headAt ws) n ++ fired i (onward f count k)) j) (take members xs))
+      (flatMap (λ t. picks (tabulate (headAt ws) n ++ fired i (onward f count (k + 1))) (put t j)) (literals rest)) ys m
 
-module _ (hs bs : List ℕ) (count i k j : ℕ) (ws : List ℕ) (n : ℕ) (xs : List ℕ) (held : ℕ) where
-  pub at-end : (out : List ℕ) (r : ℕ) → k ≡ count → Grown (length xs) (addAll (picks (headsFrom ws n 0) j) (take held xs)) out r
-      → Chosen (length xs) (addAll (whole hs bs count i k j (headsFrom ws n 0)) (take held xs)) out r n ws ws
+-- ---- the clauses f k, .., f (count - 1), with the first n heads of ws set aside: one law for each way to go on
+
+module _ (f : ℕ → WordRule) (count i k j : ℕ) (ws : List ℕ) (n : ℕ) (xs : List ℕ) (members : ℕ) where
+  abbrev all : List ℕ
+  all = addAll (picks (tabulate (headAt ws) n ++ fired i (onward f count k)) j) (take members xs)
+
+  abbrev after : ℕ → List ℕ
+  after t = picks (tabulate (headAt ws) n ++ fired i (onward f count (k + 1))) (put t j)
+
+  pub at-end : (out : List ℕ) (r : ℕ) → k ≡ count → Grown (length xs) (addAll (picks (tabulate (headAt ws) n) j) (take members xs)) out r
+      → Chosen (length xs) (addAll (picks (tabulate (headAt ws) n ++ fired i (onward f count k)) j) (take members xs)) out r n ws ws
   unfolding fired
-  at-end out r e g =
-      let z : count - k ≡ 0 = omega arith in
-      record {
-        grown = grown-as (length xs) (addAll (picks (headsFrom ws n 0) j) (take held xs)) (addAll (whole hs bs count i k j (headsFrom ws n 0)) (take held xs)) out r
-            (ap (λ (H : List ℕ). addAll (picks H j) (take held xs))
-            (ap (λ (Q : List WordRule). headsFrom ws n 0 ++ fired i Q) (rules-none hs bs k (count - k) z) ∙ append-nil (headsFrom ws n 0))) g;
-        same = λ p l. refl;
-        long = refl;
-      }
+  at-end out r e g = record {
+    grown = subst (λ (H : List ℕ). Grown (length xs) (addAll (picks H j) (take members xs)) out r)
+        (sym (ap (λ (Q : List WordRule). tabulate (headAt ws) n ++ fired i Q) (onward-done f count k (omega arith)) ∙ append-nil (tabulate (headAt ws) n))) g;
+    same = λ p l. refl;
+    long = refl;
+  }
 
-  module _ (pre : Visit hs bs count k ws n xs held) (ne : k ≡ count → ⊥) (b : Bool) (is : b ≡ inside (getD bs k 0) i) where
-    before : k < count
-    before = omega (arith, pre .2, ne)
+  module _ (low : k ≤ count) (ne : k ≡ count → ⊥) where
+    one : onward f count k ≡ f k ∷ onward f count (k + 1)
+    one = onward-step f count k (omega (arith, ne))
 
-    quiet : b ≡ false → fired i (rulesFrom hs bs k (count - k)) ≡ fired i (rulesFrom hs bs (k + 1) (count - (k + 1)))
-    quiet f = ap (fired i) (rules-one hs bs k count before) ∙ fired-quiet i (record { head = getD hs k 0; body = getD bs k 0 }) (rulesFrom hs bs (k + 1) (count - (k + 1))) (sym is ∙ f)
-
-    fires : b ≡ true → fired i (rulesFrom hs bs k (count - k)) ≡ getD hs k 0 ∷ fired i (rulesFrom hs bs (k + 1) (count - (k + 1)))
-    fires t = ap (fired i) (rules-one hs bs k count before) ∙ fired-one i (record { head = getD hs k 0; body = getD bs k 0 }) (rulesFrom hs bs (k + 1) (count - (k + 1))) (sym is ∙ t)
+    fires : inside (f k .body) i ≡ true → fired i (onward f count k) ≡ f k .head ∷ fired i (onward f count (k + 1))
+    fires t = ap (fired i) one ∙ fired-one i (f k) (onward f count (k + 1)) t
 
     -- the clause does not fire
-    pub passed : (out : List ℕ) (r : ℕ) (vs : List ℕ) → b ≡ false → Chosen (length xs) (addAll (whole hs bs count i (k + 1) j (headsFrom ws n 0)) (take held xs)) out r n ws vs
-        → Chosen (length xs) (addAll (whole hs bs count i k j (headsFrom ws n 0)) (take held xs)) out r n ws vs
-    passed out r vs f g = record {
-      grown = grown-as (length xs) (addAll (whole hs bs count i (k + 1) j (headsFrom ws n 0)) (take held xs)) (addAll (whole hs bs count i k j (headsFrom ws n 0)) (take held xs)) out r
-          (ap (λ (F : List ℕ). addAll (picks (headsFrom ws n 0 ++ F) j) (take held xs)) (quiet f)) (g .grown);
-      same = g .same;
-      long = g .long;
-    }
+    pub passed : (out : List ℕ) (r : ℕ) (vs : List ℕ) → inside (f k .body) i ≡ false
+        → Chosen (length xs) (addAll (picks (tabulate (headAt ws) n ++ fired i (onward f count (k + 1))) j) (take members xs)) out r n ws vs
+        → Chosen (length xs) (addAll (picks (tabulate (headAt ws) n ++ fired i (onward f count k)) j) (take members xs)) out r n ws vs
+    passed out r vs q g = subst (λ (F : List ℕ). Chosen (length xs) (addAll (picks (tabulate (headAt ws) n ++ F) j) (take members xs)) out r n ws vs)
+        (sym (ap (fired i) one ∙ fired-quiet i (f k) (onward f count (k + 1)) q)) g
 
     -- its head is set aside
-    pub put-aside : (out : List ℕ) (r : ℕ) (vs : List ℕ) → b ≡ true → n < 64
-        → Chosen (length xs) (addAll (whole hs bs count i (k + 1) j (headsFrom (set ws n (getD hs k 0)) (n + 1) 0)) (take held xs)) out r (n + 1) (set ws n (getD hs k 0)) vs
-        → Chosen (length xs) (addAll (whole hs bs count i k j (headsFrom ws n 0)) (take held xs)) out r n ws vs
-    put-aside out r vs t l g = let room : n < length ws = omega (arith, pre .3) in record {
-      grown = grown-as (length xs) (addAll (whole hs bs count i (k + 1) j (headsFrom (set ws n (getD hs k 0)) (n + 1) 0)) (take held xs)) (addAll (whole hs bs count i k j (headsFrom ws n 0)) (take held xs)) out r
-          (ap (λ (H : List ℕ). addAll (picks H j) (take held xs)) (sym
-          (ap (λ (A : List ℕ). A ++ fired i (rulesFrom hs bs (k + 1) (count - (k + 1)))) (heads-more ws n (getD hs k 0) room)
-          ∙ append-assoc (headsFrom ws n 0) (getD hs k 0 ∷ []) (fired i (rulesFrom hs bs (k + 1) (count - (k + 1))))
-          ∙ ap (λ (F : List ℕ). headsFrom ws n 0 ++ F) (sym (fires t))))) (g .grown);
-      same = λ p q. g .same p (omega arith) ∙ getD-set-other ws n p (getD hs k 0) 0 (λ e. omega (arith, e));
-      long = g .long ∙ length-set ws n (getD hs k 0);
+    pub put-aside : (out : List ℕ) (r : ℕ) (vs : List ℕ) → inside (f k .body) i ≡ true → length ws ≡ 64 → n < 64
+        → Chosen (length xs) (addAll (picks (tabulate (headAt (set ws n (f k .head))) (n + 1) ++ fired i (onward f count (k + 1))) j) (take members xs)) out r (n + 1) (set ws n (f k .head)) vs
+        → Chosen (length xs) (addAll (picks (tabulate (headAt ws) n ++ fired i (onward f count k)) j) (take members xs)) out r n ws vs
+    put-aside out r vs t w l g = record {
+      grown = subst (λ (H : List ℕ). Grown (length xs) (addAll (picks H j) (take members xs)) out r)
+          (ap (λ (A : List ℕ). A ++ fired i (onward f count (k + 1))) (heads-more ws n (f k .head) (omega arith))
+          ∙ append-assoc (tabulate (headAt ws) n) (f k .head ∷ []) (fired i (onward f count (k + 1))) ∙ ap (λ (F : List ℕ). tabulate (headAt ws) n ++ F) (sym (fires t))) (g .grown);
+      same = λ p q. g .same p (omega arith) ∙ getD-set-other ws n p (f k .head) 0 (λ e. omega (arith, e));
+      long = g .long ∙ length-set ws n (f k .head);
     }
 
-    pub choice-start : b ≡ true → getD hs k 0 < 2 ^ 64 → Choice hs bs count i k j ws n xs held ws xs held (getD hs k 0)
-    choice-start t small = record {
-      small = small;
+    -- its literals are followed
+    pub follow-start : (h : ℕ) → h ≡ f k .head → inside (f k .body) i ≡ true → members ≤ length xs → Rising (take members xs) → Fits w64 h → Following f count i k j ws n xs members ws xs members h
+    follow-start h e t fits rise small = record {
+      small = small .fits;
       same = λ p l. refl;
       long = refl;
-      grows = subst (λ (l : List ℕ). Growing (length xs) l (flatMap (λ t. whole hs bs count i (k + 1) (put t j) (headsFrom ws n 0)) (literals (getD hs k 0))) xs held) (sym first)
-          (grow-start xs (flatMap (λ t. whole hs bs count i (k + 1) (put t j) (headsFrom ws n 0)) (literals (getD hs k 0))) held (pre .5) (pre .6));
+      grows = subst (λ (l : List ℕ). Growing (length xs) l (flatMap after (literals h)) xs members)
+          (sym (ap (λ (F : List ℕ). addAll (picks (tabulate (headAt ws) n ++ F) j) (take members xs)) (fires t)
+          ∙ head-first (tabulate (headAt ws) n) (fired i (onward f count (k + 1))) (f k .head) j (take members xs) rise ∙ ap (λ (x : ℕ). addAll (flatMap after (literals x)) (take members xs)) (sym e)))
+          (grow-start xs (flatMap after (literals h)) members fits rise);
     }
-      where
-        first : addAll (whole hs bs count i k j (headsFrom ws n 0)) (take held xs) ≡ addAll (flatMap (λ t. whole hs bs count i (k + 1) (put t j) (headsFrom ws n 0)) (literals (getD hs k 0))) (take held xs)
-        first = ap (λ (F : List ℕ). addAll (picks (headsFrom ws n 0 ++ F) j) (take held xs)) (fires t)
-            ∙ head-first (headsFrom ws n 0) (fired i (rulesFrom hs bs (k + 1) (count - (k + 1)))) (getD hs k 0) j (take held xs) (pre .6)
 
-  module _ (vs ys : List ℕ) (m rest : ℕ) (c : Choice hs bs count i k j ws n xs held vs ys m rest) where
-    pub choice-over : length ys < m → Chosen (length xs) (addAll (whole hs bs count i k j (headsFrom ws n 0)) (take held xs)) ys m n ws vs
-    choice-over h = record {
-      grown = grow-over (length xs) (addAll (whole hs bs count i k j (headsFrom ws n 0)) (take held xs)) (flatMap (λ t. whole hs bs count i (k + 1) (put t j) (headsFrom ws n 0)) (literals rest)) ys m (c .grows) (omega (arith, c .grows .long));
+  module _ (vs ys : List ℕ) (m rest : ℕ) (c : Following f count i k j ws n xs members vs ys m rest) where
+    pub follow-over : length ys < m → Chosen (length xs) (addAll (picks (tabulate (headAt ws) n ++ fired i (onward f count k)) j) (take members xs)) ys m n ws vs
+    follow-over h = record { grown = grow-over (length xs) all (flatMap after (literals rest)) ys m (c .grows) (omega (arith, c .grows .long)); same = c .same; long = c .long }
+
+    pub follow-done : rest ≡ 0 → Chosen (length xs) (addAll (picks (tabulate (headAt ws) n ++ fired i (onward f count k)) j) (take members xs)) ys m n ws vs
+    unfolding flatMap
+    follow-done e = record {
+      grown = grow-done (length xs) all (flatMap after (literals rest)) ys m (c .grows) (ap (flatMap after) (ap literals e ∙ literals-none));
       same = c .same;
       long = c .long;
     }
 
-    pub choice-done : rest ≡ 0 → Chosen (length xs) (addAll (whole hs bs count i k j (headsFrom ws n 0)) (take held xs)) ys m n ws vs
+    pub follow-rises : m ≤ length ys → Rising (take m ys)
+    follow-rises h = c .grows .rises (omega (arith, c .grows .long))
+
+    pub follow-wide : length ws ≡ 64 → length vs ≡ 64
+    follow-wide e = c .long ∙ e
+
+    pub follow-long : length ys ≡ length xs
+    follow-long = c .grows .long
+
+    pub follow-literal : (t : ℕ) → (rest ≡ 0 → ⊥) → t ≡ trailingZeros 64 rest → t < 64
+    follow-literal t ne e = lowest-small rest t ne (c .small) e
+
+    pub follow-step : (t v r : ℕ) (out us : List ℕ) → (rest ≡ 0 → ⊥) → m ≤ length ys → t ≡ trailingZeros 64 rest → v ≡ put t j
+        → Chosen (length ys) (addAll (picks (tabulate (headAt vs) n ++ fired i (onward f count (k + 1))) v) (take m ys)) out r n vs us
+        → Following f count i k j ws n xs members us out r (low rest)
     unfolding flatMap
-    choice-done e = record {
-      grown = grow-done (length xs) (addAll (whole hs bs count i k j (headsFrom ws n 0)) (take held xs)) (flatMap (λ t. whole hs bs count i (k + 1) (put t j) (headsFrom ws n 0)) (literals rest)) ys m (c .grows)
-          (ap (flatMap (λ t. whole hs bs count i (k + 1) (put t j) (headsFrom ws n 0))) (ap literals e ∙ literals-none));
-      same = c .same;
-      long = c .long;
-    }
-
-    pub choice-visit : Visit hs bs count k ws n xs held → (k ≡ count → ⊥) → m ≤ length ys → Visit hs bs count (k + 1) vs n ys m
-    choice-visit pre ne h = (pre .0, pre .1, omega (arith, pre .2, ne), c .long ∙ pre .3, pre .4, h, c .grows .rises (omega (arith, c .grows .long)))
-
-    pub choice-long : length ys ≡ length xs
-    choice-long = c .grows .long
-
-    pub choice-literal : (t : ℕ) → (rest ≡ 0 → ⊥) → t ≡ trailingZeros 64 rest → t < 64
-    choice-literal t ne e = let h = trailing-lt 64 rest (omega (arith, ne)) (c .small) in omega arith
-
-    pub choice-less : (rest ≡ 0 → ⊥) → low rest < rest
-    choice-less ne = low-lt rest (omega (arith, ne))
-
-    pub choice-step : (t v r : ℕ) (out us : List ℕ) → (rest ≡ 0 → ⊥) → m ≤ length ys → t ≡ trailingZeros 64 rest → v ≡ put t j
-        → Chosen (length ys) (addAll (whole hs bs count i (k + 1) v (headsFrom vs n 0)) (take m ys)) out r n vs us → Choice hs bs count i k j ws n xs held us out r (low rest)
-    unfolding flatMap
-    choice-step t v r out us ne h e p g =
-        let A : headsFrom vs n 0 ≡ headsFrom ws n 0 = heads-same ws n vs (c .same) in
+    follow-step t v r out us ne h e p g =
+        let put-in : picks (tabulate (headAt vs) n ++ fired i (onward f count (k + 1))) v ≡ after (trailingZeros 64 rest) =
+        ap₂ (λ (A : List ℕ) (u : ℕ). picks (A ++ fired i (onward f count (k + 1))) u) (heads-same ws n vs (c .same)) (p ∙ ap (λ (u : ℕ). put u j) e) in
         record {
-          small = omega (arith, low-lt rest (omega (arith, ne)), c .small);
+          small = omega (arith, low-less rest ne, c .small);
           same = λ q o. g .same q o ∙ c .same q o;
           long = g .long ∙ c .long;
-          grows = grow-call (length xs) (addAll (whole hs bs count i k j (headsFrom ws n 0)) (take held xs)) (whole hs bs count i (k + 1) v (headsFrom vs n 0))
-              (flatMap (λ t. whole hs bs count i (k + 1) (put t j) (headsFrom ws n 0)) (literals rest))
-              (flatMap (λ t. whole hs bs count i (k + 1) (put t j) (headsFrom ws n 0)) (literals (low rest))) ys out m r (c .grows)
-              (ap (flatMap (λ t. whole hs bs count i (k + 1) (put t j) (headsFrom ws n 0))) (literals-low rest ne (c .small))
-              ∙ ap (λ (x : List ℕ). x ++ flatMap (λ t. whole hs bs count i (k + 1) (put t j) (headsFrom ws n 0)) (literals (low rest)))
-              (ap (λ (u : ℕ). whole hs bs count i (k + 1) u (headsFrom ws n 0)) (ap (λ (u : ℕ). put u j) (sym e) ∙ sym p) ∙ ap (λ (H : List ℕ). whole hs bs count i (k + 1) v H) (sym A)))
+          grows = grow-call (length xs) all (picks (tabulate (headAt vs) n ++ fired i (onward f count (k + 1))) v) (flatMap after (literals rest)) (flatMap after (literals (low rest))) ys out m r (c .grows)
+              (ap (flatMap after) (literals-low rest ne (c .small)) ∙ ap (λ (x : List ℕ). x ++ flatMap after (literals (low rest))) (sym put-in))
               (omega (arith, c .grows .long)) (g .grown);
         }
 
-pub ruleset choosing = (aside-room, at-end, passed, put-aside, choice-start, choice-over, choice-done, choice-visit, choice-long, choice-literal, choice-less, choice-step, not-true, not-false, needs)
+pub ruleset choosing = (
+  next-within,
+  next-less,
+  aside-room,
+  aside-within,
+  aside-long,
+  follow-over,
+  follow-done,
+  follow-rises,
+  follow-wide,
+  follow-long,
+  follow-literal,
+  follow-step,
+  at-end,
+  passed,
+  put-aside,
+  follow-start,
+  low-less,
+  via-true,
+  via-false,
+  needs,
+)

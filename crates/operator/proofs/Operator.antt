@@ -1,7 +1,6 @@
 -- The operator on words: what a set gives, and the stages. Assumes nothing.
-use Prim.Native.Nat.{ℕ, suc, _+_, _-_, _<_}
+use Prim.Native.Nat.{ℕ}
 use lib.Dec.{T, eqb, eqb→eq}
-use lib.ListN.{getD}
 use mathlib.Core.Bool.{Bool, true, false, cond, _&&_, _||_}
 use mathlib.Core.List.{List, [], _∷_, _++_, flatMap}
 use mathlib.Core.Path.{_≡_, refl, sym, ap, ap₂, _∙_, subst}
@@ -12,18 +11,10 @@ use Rattle.sets.specs.Words.{inside, put}
 use Rattle.rising.proofs.Literals.{literals-none}
 use Rattle.rising.specs.Literals.{literals}
 use Rattle.heads.specs.Heads.{picks}
-use Rattle.operator.specs.Operator.{WordRule, rulesFrom, choices, fired, next, bars, barred}
+use Rattle.operator.specs.Operator.{WordRule, choices, fired, next, bars, barred}
 use Rattle.rising.specs.RisingSets.{addAll}
 
 -- ---- one clause more
-
-pub rules-none : (hs bs : List ℕ) (k n : ℕ) → n ≡ 0 → rulesFrom hs bs k n ≡ []
-unfolding rulesFrom
-rules-none hs bs k n e = ap (rulesFrom hs bs k) e
-
-pub rules-one : (hs bs : List ℕ) (k n : ℕ) → k < n → rulesFrom hs bs k (n - k) ≡ record { head = getD hs k 0; body = getD bs k 0 } ∷ rulesFrom hs bs (k + 1) (n - (k + 1))
-unfolding rulesFrom
-rules-one hs bs k n h = let e : n - k ≡ suc (n - (k + 1)) = omega arith in ap (rulesFrom hs bs k) e
 
 module _ (i j : ℕ) (c : WordRule) (Q : List WordRule) where
   pub choices-quiet : inside (c .body) i ≡ false → choices i (c ∷ Q) j ≡ choices i Q j
@@ -67,7 +58,7 @@ joined-none f (x ∷ l) h = ap₂ (λ a b. a ++ b) (h x) (joined-none f l h)
 
 -- then it gives nothing
 pub barred-none : (i : ℕ) (Q : List WordRule) → barred i Q ≡ true → (j : ℕ) → choices i Q j ≡ []
-unfolding anyOf bars flatMap
+unfolding anyOf flatMap
 barred-none i [] e j = absurd (let z : _≡_ {A = ℕ} 0 1 = cc in omega arith)
 barred-none i (c ∷ Q) e j = go (bars i c) refl e (barred-none i Q)
   where

@@ -5,70 +5,41 @@ use lib.Bits.{bitAnd}
 use lib.Dec.{eqb}
 use lib.ListN.{length, getD, take, drop, drop-of-length-le}
 use lib.Seq.{drop-cons, length-take-le, getD-take}
-use mathlib.Core.Bool.{Bool, true, false, _&&_, _||_}
+use mathlib.Core.Bool.{Bool, true, _&&_}
 use mathlib.Core.List.{List, _∷_, _++_, flatMap}
 use mathlib.Core.Path.{_≡_, refl, sym, ap, ap₂, _∙_, subst}
 use native.Mathlib.Numerals.{add-one}
 use native.Mathlib.Omega.{arith}
-use Rattle.sets.specs.Lists.{Rising, anyOf}
+use Rattle.sets.specs.Lists.{Rising, upFrom, onward, tabulate}
+use Rattle.sets.proofs.Lists.{onward-start, lacks-start, lacks-hit, lacks-more, lacks-none}
+use Rattle.sets.proofs.Tests.{via}
 use Rattle.sets.specs.Words.{inside}
 use Rattle.rising.proofs.Growing.{Growing, grown-as, grown-held, grow-start, grow-call, grow-done, grow-over}
-use Rattle.heads.specs.Heads.{headsFrom, picks}
-use Rattle.heads.proofs.Loops.{heads-none}
-use Rattle.operator.proofs.Operator.{rules-none, rules-one, choices-picks, barred-none, next-is}
+use Rattle.heads.specs.Heads.{headAt, picks}
+use Rattle.operator.proofs.Operator.{choices-picks, barred-none, next-is}
 use Rattle.rising.proofs.RisingSets.{nothing-rises}
 use Rattle.rising.specs.Growing.{Grown}
-use Rattle.operator.specs.Operator.{WordRule, rulesFrom, choices, fired, bars, barred, next, Chosen}
+use Rattle.operator.specs.Operator.{WordRule, ruleAt, choices, fired, bars, barred, next, Chosen}
 use Rattle.rising.specs.RisingSets.{addAll}
-
-pub bars-is : (i head body : ℕ) → (eqb head 0 && eqb (bitAnd body i) body) ≡ bars i (record { head = head; body = body })
-unfolding bars
-bars-is i head body = refl
-
--- ---- no clause before k passes the test
-
-pub record Passing (t : WordRule → Bool) (hs bs : List ℕ) (count k : ℕ) : Type 0 where
-  pub within : k ≤ count
-  pub same : anyOf t (rulesFrom hs bs k (count - k)) ≡ anyOf t (rulesFrom hs bs 0 count)
-
-module _ (t : WordRule → Bool) (hs bs : List ℕ) (count : ℕ) where
-  pub passing-start : Passing t hs bs count 0
-  passing-start = let e : count - 0 ≡ count = omega arith in record { within = omega arith; same = ap (λ (n : ℕ). anyOf t (rulesFrom hs bs 0 n)) e }
-
-  module _ (k : ℕ) (u : Passing t hs bs count k) where
-    here : k < count → (b : Bool) → t (record { head = getD hs k 0; body = getD bs k 0 }) ≡ b
-        → _||_ b (anyOf t (rulesFrom hs bs (k + 1) (count - (k + 1)))) ≡ anyOf t (rulesFrom hs bs 0 count)
-    unfolding anyOf
-    here h b e = sym (ap (λ (x : Bool). _||_ x (anyOf t (rulesFrom hs bs (k + 1) (count - (k + 1))))) e) ∙ ap (anyOf t) (sym (rules-one hs bs k count h)) ∙ u .same
-
-    pub passing-hit : (b : Bool) → k < count → b ≡ t (record { head = getD hs k 0; body = getD bs k 0 }) → b ≡ true → true ≡ anyOf t (rulesFrom hs bs 0 count)
-    passing-hit b h e y = here h true (sym e ∙ y)
-
-    pub passing-miss : (b : Bool) → k < count → b ≡ t (record { head = getD hs k 0; body = getD bs k 0 }) → b ≡ false → Passing t hs bs count (k + 1)
-    passing-miss b h e y = record { within = omega arith; same = here h false (sym e ∙ y) }
-
-    pub passing-done : count ≤ k → false ≡ anyOf t (rulesFrom hs bs 0 count)
-    unfolding anyOf
-    passing-done h = sym (ap (anyOf t) (rules-none hs bs k (count - k) (omega arith))) ∙ u .same
 
 -- ---- what one member gives
 
-module _ (hs bs : List ℕ) (count i : ℕ) (xs : List ℕ) (held : ℕ) where
-  pub gives-none : (b : Bool) → held ≤ length xs → b ≡ barred i (rulesFrom hs bs 0 count) → b ≡ true
-      → Grown (length xs) (addAll (choices i (rulesFrom hs bs 0 count) i) (take held xs)) xs held
+module _ (hs bs : List ℕ) (count i : ℕ) (xs : List ℕ) (members : ℕ) where
+  pub gives-none : (b : Bool) → members ≤ length xs → b ≡ barred i (tabulate (ruleAt hs bs) count) → b ≡ true
+      → Grown (length xs) (addAll (choices i (tabulate (ruleAt hs bs) count) i) (take members xs)) xs members
   unfolding addAll
-  gives-none b h e t = grown-as (length xs) (take held xs) (addAll (choices i (rulesFrom hs bs 0 count) i) (take held xs)) xs held
-      (ap (λ (l : List ℕ). addAll l (take held xs)) (barred-none i (rulesFrom hs bs 0 count) (sym e ∙ t) i))
-      (grown-held xs held h)
+  gives-none b h e t = grown-as (length xs) (take members xs) (addAll (choices i (tabulate (ruleAt hs bs) count) i) (take members xs)) xs members
+      (ap (λ (l : List ℕ). addAll l (take members xs)) (barred-none i (tabulate (ruleAt hs bs) count) (sym e ∙ t) i))
+      (grown-held xs members h)
 
   -- no head is set aside yet
-  pub gives-all : (ws vs out : List ℕ) (r : ℕ) → Chosen (length xs) (addAll (picks (headsFrom ws 0 0 ++ fired i (rulesFrom hs bs 0 (count - 0))) i) (take held xs)) out r 0 ws vs
-      → Grown (length xs) (addAll (choices i (rulesFrom hs bs 0 count) i) (take held xs)) out r
+  pub gives-all : (ws vs out : List ℕ) (r : ℕ) → Chosen (length xs) (addAll (picks (tabulate (headAt ws) 0 ++ fired i (onward (ruleAt hs bs) count 0)) i) (take members xs)) out r 0 ws vs
+      → Grown (length xs) (addAll (choices i (tabulate (ruleAt hs bs) count) i) (take members xs)) out r
+  unfolding tabulate upFrom
   gives-all ws vs out r g =
-      let e : count - 0 ≡ count = omega arith in
-      grown-as (length xs) (addAll (picks (headsFrom ws 0 0 ++ fired i (rulesFrom hs bs 0 (count - 0))) i) (take held xs)) (addAll (choices i (rulesFrom hs bs 0 count) i) (take held xs)) out r
-      (ap (λ (l : List ℕ). addAll l (take held xs)) (choices-picks i (rulesFrom hs bs 0 count) i
-      ∙ sym (ap (λ (A : List ℕ). picks (A ++ fired i (rulesFrom hs bs 0 (count - 0))) i) (heads-none ws 0 0 (omega arith)) ∙ ap (λ (m : ℕ). picks (fired i (rulesFrom hs bs 0 m)) i) e)))
+      grown-as (length xs) (addAll (picks (fired i (onward (ruleAt hs bs) count 0)) i) (take members xs)) (addAll (choices i (tabulate (ruleAt hs bs) count) i) (take members xs)) out r
+      (ap (λ (l : List ℕ). addAll l (take members xs))
+      (choices-picks i (tabulate (ruleAt hs bs) count) i ∙ ap (λ (Q : List WordRule). picks (fired i Q) i) (sym (onward-start (ruleAt hs bs) count))))
       (g .grown)
 
 -- ---- the members from p on have still to give
@@ -116,4 +87,4 @@ module _ (Q : List WordRule) (now : List ℕ) (members : ℕ) (xs : List ℕ) wh
               (omega (arith, s .grows .long)) g;
         }
 
-pub ruleset stepping = (bars-is, passing-start, passing-hit, passing-miss, passing-done, gives-none, gives-all, nothing-rises, step-start, step-over, step-done, step-long, step-rises, step-next, needs)
+pub ruleset stepping = (lacks-start, lacks-hit, lacks-more, lacks-none, via, gives-none, gives-all, nothing-rises, step-start, step-over, step-done, step-long, step-rises, step-next, needs)

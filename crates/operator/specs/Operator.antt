@@ -1,5 +1,5 @@
 -- The operator on words: what a set gives, and the stages. Assumes nothing.
-use Prim.Native.Nat.{ℕ, zero, suc, _+_, _<_}
+use Prim.Native.Nat.{ℕ, zero, suc, _<_}
 use lib.Dec.{eqb}
 use lib.ListN.{length, getD}
 use mathlib.Core.Bool.{Bool, cond, _&&_}
@@ -16,10 +16,9 @@ pub record WordRule : Type 0 where
   pub head : ℕ
   pub body : ℕ
 
--- the n clauses from the place k on
-unfoldable pub rulesFrom : List ℕ → List ℕ → ℕ → ℕ → List WordRule
-rulesFrom hs bs k zero = []
-rulesFrom hs bs k (suc n) = record { head = getD hs k 0; body = getD bs k 0 } ∷ rulesFrom hs bs (k + 1) n
+-- the clause at a place of an array of heads and one of bodies
+abbrev pub ruleAt : List ℕ → List ℕ → ℕ → WordRule
+ruleAt hs bs i = record { head = getD hs i 0; body = getD bs i 0 }
 
 -- every set made of j and one head literal, chosen every way, of each clause whose body lies in i;
 -- "if I contains some constraint's body, it gives nothing", since an empty head offers no literal to choose
@@ -42,7 +41,7 @@ stage Q zero = 0 ∷ []
 stage Q (suc k) = next Q (stage Q k)
 
 -- a constraint whose body lies in i
-unfoldable pub bars : ℕ → WordRule → Bool
+abbrev pub bars : ℕ → WordRule → Bool
 bars i c = eqb (c .head) 0 && inside (c .body) i
 
 -- i contains some constraint's body

@@ -2,15 +2,15 @@
 ghost use mathlib.Core.Path.{_≡_};
 ghost use mathlib.Core.Bool.{_&&_};
 ghost use mathlib.Core.List.{_++_};
-ghost use Prim.Native.Nat.{_-_, _≤_, _<_};
+ghost use Prim.Native.Nat.{_≤_, _<_};
 ghost use lib.Count.{ones};
 ghost use lib.Dec.{ltb};
 ghost use lib.ListN.{length, take};
-ghost use Rattle.sets.specs.Lists.{Rising};
+ghost use Rattle.sets.specs.Lists.{Rising, onward, tabulate};
 ghost use Rattle.rising.specs.Growing.{Grown};
 ghost use Rattle.rising.specs.RisingSets.{addAll};
-ghost use Rattle.heads.specs.Heads.{headsFrom, picks};
-ghost use Rattle.operator.specs.Operator.{rulesFrom, choices, fired, bars, barred, next, Chosen};
+ghost use Rattle.heads.specs.Heads.{headAt, picks};
+ghost use Rattle.operator.specs.Operator.{ruleAt, choices, fired, bars, barred, next, Chosen};
 
 // Whether a head is set aside where `n` are: it has two literals or more, and there is a place for it.
 fn sets_aside(head: u64, n: usize) -> bool
@@ -31,23 +31,23 @@ fn choose<'a>(
     wide: &mut [u64; 64],
     n: usize,
     set: &mut [u64],
-    held: usize,
+    members: usize,
 ) -> usize
-    requires { ⌜ (count ≤ length (now heads)) × (count ≤ length (now bodies)) × (k ≤ count) × (length (now wide) ≡ 64) × (n ≤ 64) × (held ≤ length (now set)) × Rising (take held (now set)) ⌝ }
-    ensures { λ r. ⌜ Chosen (length (now (set .entry))) (addAll (picks (headsFrom (now (wide .entry)) n 0 ++ fired i (rulesFrom (now (heads .entry)) (now (bodies .entry)) k (count - k))) j) (take held (now (set .entry)))) (now (set .exit)) r n (now (wide .entry)) (now (wide .exit)) ⌝ }
+    requires { ⌜ (count ≤ length (now heads)) × (count ≤ length (now bodies)) × (k ≤ count) × (length (now wide) ≡ 64) × (n ≤ 64) × (members ≤ length (now set)) × Rising (take members (now set)) ⌝ }
+    ensures { λ r. ⌜ Chosen (length (now (set .entry))) (addAll (picks (tabulate (headAt (now (wide .entry))) n ++ fired i (onward (ruleAt (now (heads .entry)) (now (bodies .entry))) count k)) j) (take members (now (set .entry)))) (now (set .exit)) r n (now (wide .entry)) (now (wide .exit)) ⌝ }
 {
     if k == count {
-        return heads::combine(wide, n, j, set, held);
+        return heads::combine(wide, n, j, set, members);
     }
     if !rising::subset(bodies[k], i) {
-        return choose(heads, bodies, count, i, k + 1, j, wide, n, set, held);
+        return choose(heads, bodies, count, i, k + 1, j, wide, n, set, members);
     }
     let head = heads[k];
     if sets_aside(head, n) {
         wide[n] = head;
-        return choose(heads, bodies, count, i, k + 1, j, wide, n + 1, set, held);
+        return choose(heads, bodies, count, i, k + 1, j, wide, n + 1, set, members);
     }
-    let mut m = held;
+    let mut m = members;
     let mut rest = head;
     while rest != 0 {
         if set.len() < m {
@@ -70,7 +70,7 @@ fn bars_at(head: u64, body: u64, i: u64) -> bool
 // Whether `i` contains some constraint's body.
 fn blocked<'a>(heads: &'a [u64], bodies: &'a [u64], count: usize, i: u64) -> bool
     requires { ⌜ (count ≤ length (now heads)) × (count ≤ length (now bodies)) ⌝ }
-    ensures { λ r. ⌜ r ≡ barred i (rulesFrom (now (heads .entry)) (now (bodies .entry)) 0 count) ⌝ }
+    ensures { λ r. ⌜ r ≡ barred i (tabulate (ruleAt (now (heads .entry)) (now (bodies .entry))) count) ⌝ }
 {
     let mut k: usize = 0;
     while k < count {
@@ -89,16 +89,16 @@ fn give<'a>(
     count: usize,
     i: u64,
     set: &mut [u64],
-    held: usize,
+    members: usize,
 ) -> usize
-    requires { ⌜ (count ≤ length (now heads)) × (count ≤ length (now bodies)) × (held ≤ length (now set)) × Rising (take held (now set)) ⌝ }
-    ensures { λ r. ⌜ Grown (length (now (set .entry))) (addAll (choices i (rulesFrom (now (heads .entry)) (now (bodies .entry)) 0 count) i) (take held (now (set .entry)))) (now (set .exit)) r ⌝ }
+    requires { ⌜ (count ≤ length (now heads)) × (count ≤ length (now bodies)) × (members ≤ length (now set)) × Rising (take members (now set)) ⌝ }
+    ensures { λ r. ⌜ Grown (length (now (set .entry))) (addAll (choices i (tabulate (ruleAt (now (heads .entry)) (now (bodies .entry))) count) i) (take members (now (set .entry)))) (now (set .exit)) r ⌝ }
 {
     if blocked(heads, bodies, count, i) {
-        return held;
+        return members;
     }
     let mut wide = [0u64; 64];
-    choose(heads, bodies, count, i, 0, i, &mut wide, 0, set, held)
+    choose(heads, bodies, count, i, 0, i, &mut wide, 0, set, members)
 }
 
 // Forms in `after` the stage that follows the one in the first `members` places of `stage`; gives its number of members, or one more than there are places.
@@ -111,7 +111,7 @@ pub fn step<'a>(
     after: &mut [u64],
 ) -> usize
     requires { ⌜ (count ≤ length (now heads)) × (count ≤ length (now bodies)) × (members ≤ length (now stage)) ⌝ }
-    ensures { λ r. ⌜ Grown (length (now (after .entry))) (next (rulesFrom (now (heads .entry)) (now (bodies .entry)) 0 count) (take members (now (stage .entry)))) (now (after .exit)) r ⌝ }
+    ensures { λ r. ⌜ Grown (length (now (after .entry))) (next (tabulate (ruleAt (now (heads .entry)) (now (bodies .entry))) count) (take members (now (stage .entry)))) (now (after .exit)) r ⌝ }
 {
     let mut n: usize = 0;
     let mut p: usize = 0;

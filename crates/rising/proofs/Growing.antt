@@ -11,7 +11,7 @@ use Rattle.rising.proofs.RisingSets.{addAll-++, addAll-longer, addAll-r
 use Rattle.rising.proofs.Slices.{size-fits, size-over, overlay-fits, overlay-length}
 use Rattle.rising.specs.Growing.{Grown}
 use Rattle.rising.specs.RisingSets.{addAll}
-use Rattle.rising.specs.Slices.{size, Put}
+use Rattle.rising.specs.Slices.{size, Inserted}
 
 -- what is left to put into the n members that are there makes up the set `all`; or it has proved to be too large
 pub record Growing (room : ℕ) (all left out : List ℕ) (n : ℕ) : Type 0 where
@@ -42,8 +42,8 @@ size-large room m h = go (decLe (length m) room)
     go (yes k) = absurd (omega (arith, size-fits room m k))
     go (no n) = omega (arith, n)
 
-pub put-grown : (xs out m : List ℕ) (r : ℕ) → Put xs out m r → Grown (length xs) m out r
-put-grown xs out m r p = record {
+pub inserted-grown : (xs out m : List ℕ) (r : ℕ) → Inserted xs out m r → Grown (length xs) m out r
+inserted-grown xs out m r p = record {
   count = p .count;
   words = λ h. let q : r ≡ length m = p .count ∙ size-fits (length xs) m h in
       ap₂ (λ (k : ℕ) (l : List ℕ). take k l) q (p .exit ∙ overlay-fits xs m h) ∙ take-at m (drop (length m) xs) (length m) refl;

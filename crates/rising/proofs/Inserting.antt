@@ -9,7 +9,7 @@ use native.Mathlib.Omega.{arith}
 use Rattle.sets.specs.Lists.{Rising}
 use Rattle.rising.proofs.Literals.{with-is}
 use Rattle.rising.proofs.RisingSets.{rank-within, rank-low, rank-high}
-use Rattle.rising.proofs.Slices.{opened-none, opened-one, stands-in, stands-out, put-present, put-over, put-new, place-there}
+use Rattle.rising.proofs.Slices.{opened-none, opened-one, stands-in, stands-out, inserted-present, inserted-over, inserted-new, place-there}
 use Rattle.rising.specs.RisingSets.{rank}
 use Rattle.rising.specs.Slices.{opened}
 
@@ -95,4 +95,4 @@ pub ruleset placing = (between-start, between-right, between-left, between-done,
 
 pub ruleset opening = (open-start, open-step, open-done, needs)
 
-pub ruleset inserting = (stands-in, stands-out, put-present, put-over, put-new, place-there, with-is, needs)
+pub ruleset inserting = (stands-in, stands-out, inserted-present, inserted-over, inserted-new, place-there, with-is, needs)

@@ -70,8 +70,9 @@ bits-rising (suc k) p s = here-rising (s % 2) p (bitsFrom k (p + 1) (s / 2)) (bi
 
 -- ---- the lowest
 
-pub low-lt : (s : ℕ) → 0 < s → low s < s
-low-lt s h = omega (arith, and-le-r s (s - 1))
+-- a walk over the set bits, from the lowest, ends
+pub low-less : (s : ℕ) → (s ≡ 0 → ⊥) → low s < s
+low-less s n = omega (arith, n, and-le-r s (s - 1))
 
 low-odd : (s r : ℕ) → s % 2 ≡ suc r → low s ≡ s / 2 * 2
 low-odd s r e =
@@ -122,6 +123,9 @@ trailing-lt (suc k) s h b = go (s % 2) refl (λ q. trailing-lt k (s / 2) q (half
     go : (r : ℕ) → s % 2 ≡ r → (0 < s / 2 → trailingZeros k (s / 2) < k) → under r (trailingZeros k (s / 2)) < suc k
     go zero e ih = omega (arith, ih (omega arith))
     go (suc r) e ih = omega arith
+
+pub lowest-small : (s t : ℕ) → (s ≡ 0 → ⊥) → s < 2 ^ 64 → t ≡ trailingZeros 64 s → t < 64
+lowest-small s t n b e = omega (arith, trailing-lt 64 s (omega (arith, n)) b)
 
 bits-none : (k p : ℕ) → bitsFrom k p 0 ≡ []
 unfolding bitsFrom

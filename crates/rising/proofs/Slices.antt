@@ -13,7 +13,7 @@ use native.Mathlib.Omega.{arith}
 use Rattle.sets.specs.Lists.{Rising}
 use Rattle.rising.proofs.RisingSets.{insert-present, insert-absent, rank-within}
 use Rattle.rising.specs.RisingSets.{insertInto, rank}
-use Rattle.rising.specs.Slices.{size, overlay, opened, standsAt, Put}
+use Rattle.rising.specs.Slices.{size, overlay, opened, standsAt, Inserted}
 
 -- ---- opening a place
 
@@ -111,8 +111,8 @@ module _ (xs : List ℕ) (count x at : ℕ) (pre : (count ≤ length xs) × Risi
   place-within : at ≤ count
   place-within = omega (arith, long, rank-within x (take count xs))
 
-  pub put-present : (b : Bool) → b ≡ standsAt xs count at x → b ≡ true → Put xs xs (insertInto x (take count xs)) count
-  put-present b s t =
+  pub inserted-present : (b : Bool) → b ≡ standsAt xs count at x → b ≡ true → Inserted xs xs (insertInto x (take count xs)) count
+  inserted-present b s t =
       let k = stands-yes xs count at x (sym s ∙ t) in
       let h : at < count = k .0 in
       let q : insertInto x (take count xs) ≡ take count xs =
@@ -131,14 +131,14 @@ module _ (xs : List ℕ) (count x at : ℕ) (pre : (count ≤ length xs) × Risi
     one-more : length (insertInto x (take count xs)) ≡ count + 1
     one-more = ap length absent ∙ simp (length-append, length-drop, length-take) (omega (arith, place-within, long))
 
-    pub put-over : count ≡ length xs → Put xs xs (insertInto x (take count xs)) (count + 1)
-    put-over h = record {
+    pub inserted-over : count ≡ length xs → Inserted xs xs (insertInto x (take count xs)) (count + 1)
+    inserted-over h = record {
       count = sym (size-over (length xs) (insertInto x (take count xs)) (omega (arith, one-more)) ∙ omega arith);
       exit = sym (overlay-over xs (insertInto x (take count xs)) (omega (arith, one-more)));
     }
 
-    pub put-new : (ys : List ℕ) → (count ≡ length xs → ⊥) → ys ≡ opened xs at count → Put xs (set ys at x) (insertInto x (take count xs)) (count + 1)
-    put-new ys n o =
+    pub inserted-new : (ys : List ℕ) → (count ≡ length xs → ⊥) → ys ≡ opened xs at count → Inserted xs (set ys at x) (insertInto x (take count xs)) (count + 1)
+    inserted-new ys n o =
         let h : count < length xs = omega (arith, pre .0, n) in
         record {
           count = sym (size-fits (length xs) (insertInto x (take count xs)) (omega (arith, one-more)) ∙ one-more);

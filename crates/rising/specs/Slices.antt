@@ -23,12 +23,12 @@ unfoldable pub standsAt : List ℕ → ℕ → ℕ → ℕ → Bool
 standsAt xs count at x = cond (ltb at count) (eqb (getD xs at 0) x) false
 
 -- r and the list at exit, where m was to be put into the first places of xs
-pub record Put (xs out m : List ℕ) (r : ℕ) : Type 0 where
+pub record Inserted (xs out m : List ℕ) (r : ℕ) : Type 0 where
   pub count : r ≡ size (length xs) m
   pub exit : out ≡ overlay xs m
 
 -- the r members of m stand in the first places
-pub record Kept (m out : List ℕ) (r : ℕ) : Type 0 where
+pub record Prefix (m out : List ℕ) (r : ℕ) : Type 0 where
   pub count : r ≡ length m
   pub words : take r out ≡ m
 

@@ -6,15 +6,15 @@ ghost use lib.Count.{trailingZeros};
 ghost use Rattle.sets.specs.Lists.{Rising};
 ghost use Rattle.sets.specs.Words.{inside, put};
 ghost use Rattle.rising.specs.RisingSets.{insertInto, rank};
-ghost use Rattle.rising.specs.Slices.{opened, standsAt, Put};
+ghost use Rattle.rising.specs.Slices.{opened, standsAt, Inserted};
 
-// The place of `x` in the rising first `count` places: how many of them are below it.
-fn place(set: &[u64], count: usize, x: u64) -> usize
-    requires { ⌜ (count ≤ length (now set)) × Rising (take count (now set)) ⌝ }
-    ensures { λ r. ⌜ (r ≡ rank x (take count (now (set .entry)))) × (r ≤ count) ⌝ }
+// The place of `x` in the rising first `members` places: how many of them are below it.
+fn place(set: &[u64], members: usize, x: u64) -> usize
+    requires { ⌜ (members ≤ length (now set)) × Rising (take members (now set)) ⌝ }
+    ensures { λ r. ⌜ (r ≡ rank x (take members (now (set .entry)))) × (r ≤ members) ⌝ }
 {
     let mut lo: usize = 0;
-    let mut hi = count;
+    let mut hi = members;
     while lo < hi {
         let mid = lo + (hi - lo) / 2;
         if set[mid] < x {
@@ -26,44 +26,44 @@ fn place(set: &[u64], count: usize, x: u64) -> usize
     lo
 }
 
-// Moves the members from `at` to `count` up by one place.
-fn open(set: &mut [u64], at: usize, count: usize)
-    requires { ⌜ (at ≤ count) × (count < length (now set)) ⌝ }
-    ensures { λ r. ⌜ now (set .exit) ≡ opened (now (set .entry)) at count ⌝ }
+// Moves the members from `at` to `members` up by one place.
+fn open(set: &mut [u64], at: usize, members: usize)
+    requires { ⌜ (at ≤ members) × (members < length (now set)) ⌝ }
+    ensures { λ r. ⌜ now (set .exit) ≡ opened (now (set .entry)) at members ⌝ }
 {
-    let mut p = count;
+    let mut p = members;
     while at < p {
         set[p] = set[p - 1];
         p -= 1;
     }
 }
 
-// Whether `x` stands at `at`, among the first `count` places.
-fn stands(set: &[u64], count: usize, at: usize, x: u64) -> bool
-    requires { ⌜ count ≤ length (now set) ⌝ }
-    ensures { λ r. ⌜ r ≡ standsAt (now (set .entry)) count at x ⌝ }
+// Whether `x` stands at `at`, among the first `members` places.
+fn stands(set: &[u64], members: usize, at: usize, x: u64) -> bool
+    requires { ⌜ members ≤ length (now set) ⌝ }
+    ensures { λ r. ⌜ r ≡ standsAt (now (set .entry)) members at x ⌝ }
 {
-    if at < count {
+    if at < members {
         return set[at] == x;
     }
     false
 }
 
-// Puts `x` into the set in the first `count` places; gives the number of members, or one more than there are places where it would be one too many.
-pub fn insert(set: &mut [u64], count: usize, x: u64) -> usize
-    requires { ⌜ (count ≤ length (now set)) × Rising (take count (now set)) ⌝ }
-    ensures { λ r. ⌜ Put (now (set .entry)) (now (set .exit)) (insertInto x (take count (now (set .entry)))) r ⌝ }
+// Puts `x` into the set in the first `members` places; gives the number of members, or one more than there are places where it would be one too many.
+pub fn insert(set: &mut [u64], members: usize, x: u64) -> usize
+    requires { ⌜ (members ≤ length (now set)) × Rising (take members (now set)) ⌝ }
+    ensures { λ r. ⌜ Inserted (now (set .entry)) (now (set .exit)) (insertInto x (take members (now (set .entry)))) r ⌝ }
 {
-    let at = place(set, count, x);
-    if stands(set, count, at, x) {
-        return count;
+    let at = place(set, members, x);
+    if stands(set, members, at, x) {
+        return members;
     }
-    if count == set.len() {
-        return count + 1;
+    if members == set.len() {
+        return members + 1;
     }
-    open(set, at, count);
+    open(set, at, members);
     set[at] = x;
-    count + 1
+    members + 1
 }
 
 // Whether `a` is a subset of `b`.

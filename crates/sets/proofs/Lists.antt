@@ -252,13 +252,13 @@ module _ {A : Type 0} (f : ℕ → A) (n : ℕ) (p : A → Bool) (from : ℕ) wh
   unfolding anyOf
   lacks-done i s h = sym (ap (anyOf p) (onward-done f n i h)) ∙ s .rest
 
--- the same from the first on, of all of them
-module _ {A : Type 0} (f : ℕ → A) (n : ℕ) (p : A → Bool) where
-  pub lacks-not-all : (i : ℕ) → Lacks f n p 0 i → i < n → p (f i) ≡ true → true ≡ anyOf p (tabulate f n)
-  lacks-not-all i s h t = lacks-not f n p 0 i s h t ∙ ap (anyOf p) (onward-start f n)
+-- the same from the start, where none of f 0, .., f (i - 1) passes
+module _ {A : Type 0} (f : ℕ → A) (n : ℕ) (p : A → Bool) (i : ℕ) (s : Lacks f n p 0 i) where
+  pub lacks-hit : i < n → p (f i) ≡ true → true ≡ anyOf p (tabulate f n)
+  lacks-hit h t = lacks-not f n p 0 i s h t ∙ ap (anyOf p) (onward-start f n)
 
-  pub lacks-all : (i : ℕ) → Lacks f n p 0 i → n ≤ i → false ≡ anyOf p (tabulate f n)
-  lacks-all i s h = lacks-done f n p 0 i s h ∙ ap (anyOf p) (onward-start f n)
+  pub lacks-none : n ≤ i → false ≡ anyOf p (tabulate f n)
+  lacks-none h = lacks-done f n p 0 i s h ∙ ap (anyOf p) (onward-start f n)
 
 -- ---- the numbers below n
 pub below-in : (n x : ℕ) → x < n → x ∈ below n

@@ -2,6 +2,6 @@
 pub mod Bridge
 pub mod Run
 pub mod Minimal
-pub mod Coming
+pub mod Iterating
 pub mod Selecting
 pub mod Rules

@@ -84,7 +84,6 @@ in-any t (y ∷ l) h = go (t y) refl h (in-any t l)
     go false e u ih = let s = ih u in (s .0, inr (s .1), s .2)
 
 pub proper-within : (w v : ℕ) → T (properIn w v) → T (inside v w)
-unfolding properIn
 proper-within w v t = T-and-l (inside v w) (not (eqb v w)) t
 
 -- a rule of the theory as two words
@@ -105,7 +104,7 @@ alike-words (r ∷ R) f = (
 -- ---- the same models
 
 satisfies-model : (w : ℕ) (R : List (Rule ℕ)) → satisfies (map wordRule R) w ≡ wmodel w R
-unfolding satisfies anyOf violates wmodel wsat
+unfolding anyOf wmodel wsat
 satisfies-model w [] = refl
 satisfies-model w (r ∷ R) = go (inside (mask (r .body)) w) (eqb (bitAnd (mask (r .head)) w) 0) (satisfies-model w R)
   where
@@ -124,7 +123,6 @@ final-rests Q = ap (next Q) (rests-at Q)
 -- ---- minimal members
 
 pub proper-not : (w v : ℕ) → T (inside v w) → (T (properIn w v) → ⊥) → v ≡ w
-unfolding properIn
 proper-not w v t n = go (T? (eqb v w))
   where
     go : T (eqb v w) ⊎ (T (eqb v w) → ⊥) → v ≡ w
@@ -132,7 +130,6 @@ proper-not w v t n = go (T? (eqb v w))
     go (inr f) = absurd (n (T-and (inside v w) (not (eqb v w)) t (not-T (eqb v w) f)))
 
 pub not-proper : (w v : ℕ) → T (properIn w v) → v ≡ w → ⊥
-unfolding properIn
 not-proper w v t e = T-not (eqb v w) (T-and-r (inside v w) (not (eqb v w)) t) (subst (λ z. T (eqb v z)) e (eqb-refl v))
 
 module _ (R : List (Rule ℕ)) (small : Each (λ (r : Rule ℕ). Each (λ x. x < 64) (r .head)) R) where
@@ -158,7 +155,7 @@ module _ (R : List (Rule ℕ)) (small : Each (λ (r : Rule ℕ). Each (λ x. x <
       (stage-to (map wordRule R) R (alike-words R small) (ending (map wordRule R)) w (s .0), subst T (satisfies-model w R) (s .1))
 
   pub minimal-out : (w : ℕ) → w ∈ minimals (sift (satisfies (map wordRule R)) (finalStage (map wordRule R))) → WMinimal R (ending (map wordRule R)) w
-  unfolding minimals leastIn
+  unfolding minimals
   minimal-out w i =
       let s = out-sift (leastIn (sift (satisfies (map wordRule R)) (finalStage (map wordRule R)))) (sift (satisfies (map wordRule R)) (finalStage (map wordRule R))) w i in
       let f = found-out w (s .0) in
@@ -169,7 +166,7 @@ module _ (R : List (Rule ℕ)) (small : Each (λ (r : Rule ℕ). Each (λ x. x <
       }
 
   pub minimal-in : (w : ℕ) → WMinimal R (ending (map wordRule R)) w → w ∈ minimals (sift (satisfies (map wordRule R)) (finalStage (map wordRule R)))
-  unfolding minimals leastIn
+  unfolding minimals
   minimal-in w h = in-sift (leastIn (sift (satisfies (map wordRule R)) (finalStage (map wordRule R)))) (sift (satisfies (map wordRule R)) (finalStage (map wordRule R))) w (found-in w (h .member) (h .model))
       (not-T (anyOf (properIn w) (sift (satisfies (map wordRule R)) (finalStage (map wordRule R)))) (λ t.
       let s = in-any (properIn w) (sift (satisfies (map wordRule R)) (finalStage (map wordRule R))) t in

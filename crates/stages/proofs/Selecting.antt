@@ -11,24 +11,14 @@ use native.Mathlib.Numerals.{add-one}
 use native.Mathlib.Omega.{arith}
 use borrow.Author.Needs.{needs}
 use Rattle.sets.specs.Lists.{sift, anyOf}
-use Rattle.sets.proofs.Tests.{clash}
+use Rattle.sets.proofs.Tests.{clash, via}
+use Rattle.sets.proofs.Lists.{lacks-start, lacks-hit, lacks-more, lacks-none}
 use Rattle.rising.specs.Slices.{Sifted}
 use Rattle.operator.specs.Operator.{WordRule, stage}
-use Rattle.stages.specs.Run.{finalStage, crowded, Settled, Settling}
+use Rattle.stages.specs.Run.{finalStage, crowded, Iterated, Iterating}
 use Rattle.stages.specs.Minimal.{violates, satisfies, properIn, leastIn, minimals, minimalModels, Minimals}
 use Rattle.stages.proofs.Run.{crowded-start, reached-start}
 use Rattle.stages.proofs.Minimal.{any-none, any-one, sift-one, sift-none}
-use Rattle.operator.proofs.Stepping.{passing-start, passing-hit, passing-miss, passing-done}
-
--- ---- the tests
-
-pub violates-is : (w head body : ℕ) → (eqb (bitAnd body w) body && eqb (bitAnd head w) 0) ≡ violates w (record { head = head; body = body })
-unfolding violates
-violates-is w head body = refl
-
-pub properly-is : (v w : ℕ) → (eqb (bitAnd v w) v && not (eqb v w)) ≡ properIn w v
-unfolding properIn
-properly-is v w = refl
 
 -- ---- a list, one member more
 
@@ -104,14 +94,6 @@ module _ (t : ℕ → Bool) (l : List ℕ) (members : ℕ) (xs : List ℕ) where
         sym (ap (λ (k : List ℕ). take n ys ++ k) (ap (sift t) (no-more l members p (s .inside) h) ∙ sift-none t) ∙ append-nil (take n ys)) ∙ s .whole in
         record { count = sym (length-take-le n ys (omega (arith, s .low, s .room, s .within))) ∙ ap length w; words = w; few = omega (arith, s .low, s .within) }
 
-pub satisfies-is : (Q : List WordRule) (w : ℕ) {b : Bool} → b ≡ anyOf (violates w) Q → not b ≡ satisfies Q w
-unfolding satisfies
-satisfies-is Q w e = ap not e
-
-pub least-in-is : (l : List ℕ) (w : ℕ) {b : Bool} → b ≡ anyOf (properIn w) l → not b ≡ leastIn l w
-unfolding leastIn
-least-in-is l w e = ap not e
-
 -- ---- the minimal models of the stage that ends the run
 module _ (Q : List WordRule) (room : ℕ) where
   -- some stage was too large
@@ -124,14 +106,14 @@ module _ (Q : List WordRule) (room : ℕ) where
     second-length = k;
   }
 
-  pub minimals-over : (a b : List ℕ) (r : ℕ) → Settled Q room r a b → room < r → Minimals Q room r a b
+  pub minimals-over : (a b : List ℕ) (r : ℕ) → Iterated Q room r a b → room < r → Minimals Q room r a b
   minimals-over a b r s h = go (crowded Q room) refl
     where
       go : (c : Bool) → crowded Q room ≡ c → Minimals Q room r a b
       go true c = too-large a b r c (s .count ∙ rw c) (s .first-length) (s .second-length)
       go false c = absurd (omega (arith, s .fits c))
 
-  pub minimals-are : (a b kept out : List ℕ) (r k n : ℕ) → Settled Q room r a b → r ≤ room
+  pub minimals-are : (a b kept out : List ℕ) (r k n : ℕ) → Iterated Q room r a b → r ≤ room
       → Sifted (sift (satisfies Q) (take r a)) r kept k → length kept ≡ length b
       → Sifted (sift (leastIn (take k kept)) (take k kept)) k out n → length out ≡ length a → Minimals Q room n out kept
   unfolding minimalModels minimals
@@ -140,7 +122,7 @@ module _ (Q : List WordRule) (room : ℕ) where
       go : (c : Bool) → crowded Q room ≡ c → Minimals Q room n out kept
       go true c = absurd (omega (arith, s .count ∙ ap (λ (x : Bool). cond x (room + 1) (length (finalStage Q))) c))
       go false c =
-          let f : take k kept ≡ sift (satisfies Q) (finalStage Q) = p .words ∙ ap (sift (satisfies Q)) (s .first c) in
+          let f : take k kept ≡ sift (satisfies Q) (finalStage Q) = p .words ∙ ap (sift (satisfies Q)) (s .in-first c) in
           let g : take n out ≡ minimalModels Q = q .words ∙ ap (λ (l : List ℕ). sift (leastIn l) l) f in
           record {
             count = q .count ∙ ap (λ (l : List ℕ). length (sift (leastIn l) l)) f ∙ sym (ap (λ (x : Bool). cond x (room + 1) (length (minimalModels Q))) c);
@@ -158,7 +140,7 @@ pub minimals-as : (Q : List WordRule) (a out other : List ℕ) (r : ℕ) → Min
 minimals-as Q a out other r m = subst (λ (n : ℕ). Minimals Q n r out other) (length-set a 0 0) m
 
 -- stage 0 stands in the first place
-pub begins : (Q : List WordRule) (a b : List ℕ) → (length a ≡ 0 → ⊥) → length b ≡ length a → Settling Q (set a 0 0) 1 b 0
+pub begins : (Q : List WordRule) (a b : List ℕ) → (length a ≡ 0 → ⊥) → length b ≡ length a → Iterating Q (set a 0 0) 1 b 0
 unfolding stage
 begins Q a b h l =
     let e : length (set a 0 0) ≡ length a = length-set a 0 0 in
@@ -170,14 +152,11 @@ begins Q a b h l =
     }
 
 pub ruleset selecting = (
-  violates-is,
-  properly-is,
-  satisfies-is,
-  least-in-is,
-  passing-start,
-  passing-hit,
-  passing-miss,
-  passing-done,
+  lacks-start,
+  lacks-hit,
+  lacks-more,
+  lacks-none,
+  via,
   looking-start,
   looking-hit,
   looking-miss,

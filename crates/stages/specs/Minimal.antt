@@ -12,19 +12,19 @@ use Rattle.operator.specs.Operator.{WordRule}
 use Rattle.stages.specs.Run.{finalStage, crowded}
 
 -- w contains the body of c and meets its head nowhere
-unfoldable pub violates : ℕ → WordRule → Bool
+abbrev pub violates : ℕ → WordRule → Bool
 violates w c = inside (c .body) w && eqb (bitAnd (c .head) w) 0
 
 -- w satisfies every clause
-unfoldable pub satisfies : List WordRule → ℕ → Bool
+abbrev pub satisfies : List WordRule → ℕ → Bool
 satisfies Q w = not (anyOf (violates w) Q)
 
 -- v is a proper subset of w
-unfoldable pub properIn : ℕ → ℕ → Bool
+abbrev pub properIn : ℕ → ℕ → Bool
 properIn w v = inside v w && not (eqb v w)
 
 -- no member of the list is a proper subset of w
-unfoldable pub leastIn : List ℕ → ℕ → Bool
+abbrev pub leastIn : List ℕ → ℕ → Bool
 leastIn l w = not (anyOf (properIn w) l)
 
 -- the minimal ones of a list

@@ -51,17 +51,17 @@ pub record Reached (Q : List WordRule) (room k : ℕ) : Type 0 where
 
 -- r and the two working slices at exit: the number of members of the stage that ends the run, which stand in the first places of both, or one more than the room.
 -- Both keep their length. Free are the words behind the members, and all words of both where a stage was too large: they may be any.
-pub record Settled (Q : List WordRule) (room r : ℕ) (a b : List ℕ) : Type 0 where
+pub record Iterated (Q : List WordRule) (room r : ℕ) (first second : List ℕ) : Type 0 where
   pub count : r ≡ cond (crowded Q room) (room + 1) (length (finalStage Q))
-  pub first : crowded Q room ≡ false → take r a ≡ finalStage Q
-  pub second : crowded Q room ≡ false → take r b ≡ finalStage Q
+  pub in-first : crowded Q room ≡ false → take r first ≡ finalStage Q
+  pub in-second : crowded Q room ≡ false → take r second ≡ finalStage Q
   pub fits : crowded Q room ≡ false → r ≤ room
-  pub first-length : length a ≡ room
-  pub second-length : length b ≡ room
+  pub first-length : length first ≡ room
+  pub second-length : length second ≡ room
 
--- the run has come to stage k, which stands in the first places of a
-pub record Settling (Q : List WordRule) (a : List ℕ) (members : ℕ) (b : List ℕ) (k : ℕ) : Type 0 where
-  pub inside : members ≤ length a
-  pub long : length b ≡ length a
-  pub is : take members a ≡ stage Q k
-  pub reached : Reached Q (length a) k
+-- the run has come to stage k, which stands in the first places of the first slice
+pub record Iterating (Q : List WordRule) (first : List ℕ) (members : ℕ) (second : List ℕ) (k : ℕ) : Type 0 where
+  pub inside : members ≤ length first
+  pub long : length second ≡ length first
+  pub is : take members first ≡ stage Q k
+  pub reached : Reached Q (length first) k

@@ -2,23 +2,22 @@
 ghost use mathlib.Core.Path.{_≡_};
 ghost use Prim.Native.Nat.{_+_, _-_, _≤_, _<_};
 ghost use lib.ListN.{length, take};
-ghost use Rattle.sets.specs.Lists.{sift, anyOf};
+ghost use Rattle.sets.specs.Lists.{sift, anyOf, tabulate};
 ghost use Rattle.lists.specs.Bytes.{same};
 ghost use Rattle.rising.specs.Slices.{Sifted};
-ghost use Rattle.operator.specs.Operator.{rulesFrom};
-ghost use Rattle.stages.specs.Run.{Settling, Settled};
+ghost use Rattle.operator.specs.Operator.{ruleAt};
+ghost use Rattle.stages.specs.Run.{Iterating, Iterated};
 ghost use Rattle.stages.specs.Minimal.{violates, satisfies, properIn, leastIn, Minimals};
 
-// Whether the first `m` places of `a` hold the words that the first `n` of `b` hold.
-fn same_words<'a>(a: &'a [u64], m: usize, b: &'a [u64], n: usize) -> bool
-    requires { ⌜ (m ≤ length (now a)) × (n ≤ length (now b)) ⌝ }
-    ensures { λ r. ⌜ r ≡ same (take m (now (a .entry))) (take n (now (b .entry))) ⌝ }
+// Whether two slices hold the same words.
+fn same_words(a: &[u64], b: &[u64]) -> bool
+    ensures { λ r. ⌜ r ≡ same (now (a .entry)) (now (b .entry)) ⌝ }
 {
-    if m != n {
+    if a.len() != b.len() {
         return false;
     }
     let mut p: usize = 0;
-    while p < n {
+    while p < a.len() {
         if a[p] != b[p] {
             return false;
         }
@@ -27,28 +26,28 @@ fn same_words<'a>(a: &'a [u64], m: usize, b: &'a [u64], n: usize) -> bool
     true
 }
 
-// Goes on from stage `k`, in the first `members` places of `a`, to the stage that ends the run.
-fn settle<'a>(
+// Goes on from stage `k`, in the first `members` places of `first`, to the stage that ends the run.
+fn iterate<'a>(
     heads: &'a [u64],
     bodies: &'a [u64],
     count: usize,
-    a: &mut [u64],
+    first: &mut [u64],
     members: usize,
-    b: &mut [u64],
+    second: &mut [u64],
     k: usize,
 ) -> usize
     requires { ⌜ (count ≤ length (now heads)) × (count ≤ length (now bodies)) ⌝ }
-    requires { ⌜ Settling (rulesFrom (now heads) (now bodies) 0 count) (now a) members (now b) k ⌝ }
-    ensures { λ r. ⌜ Settled (rulesFrom (now (heads .entry)) (now (bodies .entry)) 0 count) (length (now (a .entry))) r (now (a .exit)) (now (b .exit)) ⌝ }
+    requires { ⌜ Iterating (tabulate (ruleAt (now heads) (now bodies)) count) (now first) members (now second) k ⌝ }
+    ensures { λ r. ⌜ Iterated (tabulate (ruleAt (now (heads .entry)) (now (bodies .entry))) count) (length (now (first .entry))) r (now (first .exit)) (now (second .exit)) ⌝ }
 {
-    let n = operator::step(heads, bodies, count, a, members, b);
-    if b.len() < n {
+    let n = operator::step(heads, bodies, count, first, members, second);
+    if second.len() < n {
         return n;
     }
-    if same_words(a, members, b, n) {
+    if same_words(&first[..members], &second[..n]) {
         return n;
     }
-    settle(heads, bodies, count, b, n, a, k + 1)
+    iterate(heads, bodies, count, second, n, first, k + 1)
 }
 
 // Whether `w` contains the clause's body and meets its head nowhere.
@@ -61,7 +60,7 @@ fn violates_at(head: u64, body: u64, w: u64) -> bool
 // Whether `w` violates some clause.
 fn violated<'a>(heads: &'a [u64], bodies: &'a [u64], count: usize, w: u64) -> bool
     requires { ⌜ (count ≤ length (now heads)) × (count ≤ length (now bodies)) ⌝ }
-    ensures { λ r. ⌜ r ≡ anyOf (violates w) (rulesFrom (now (heads .entry)) (now (bodies .entry)) 0 count) ⌝ }
+    ensures { λ r. ⌜ r ≡ anyOf (violates w) (tabulate (ruleAt (now (heads .entry)) (now (bodies .entry))) count) ⌝ }
 {
     let mut k: usize = 0;
     while k < count {
@@ -76,7 +75,7 @@ fn violated<'a>(heads: &'a [u64], bodies: &'a [u64], count: usize, w: u64) -> bo
 // Whether `w` satisfies every clause.
 fn satisfied<'a>(heads: &'a [u64], bodies: &'a [u64], count: usize, w: u64) -> bool
     requires { ⌜ (count ≤ length (now heads)) × (count ≤ length (now bodies)) ⌝ }
-    ensures { λ r. ⌜ r ≡ satisfies (rulesFrom (now (heads .entry)) (now (bodies .entry)) 0 count) w ⌝ }
+    ensures { λ r. ⌜ r ≡ satisfies (tabulate (ruleAt (now (heads .entry)) (now (bodies .entry))) count) w ⌝ }
 {
     !violated(heads, bodies, count, w)
 }
@@ -91,7 +90,7 @@ fn keep_models<'a>(
     kept: &mut [u64],
 ) -> usize
     requires { ⌜ (count ≤ length (now heads)) × (count ≤ length (now bodies)) × (members ≤ length (now stage)) × (members ≤ length (now kept)) ⌝ }
-    ensures { λ r. ⌜ Sifted (sift (satisfies (rulesFrom (now (heads .entry)) (now (bodies .entry)) 0 count)) (take members (now (stage .entry)))) members (now (kept .exit)) r ⌝ }
+    ensures { λ r. ⌜ Sifted (sift (satisfies (tabulate (ruleAt (now (heads .entry)) (now (bodies .entry))) count)) (take members (now (stage .entry)))) members (now (kept .exit)) r ⌝ }
 {
     let mut n: usize = 0;
     let mut p: usize = 0;
@@ -114,13 +113,13 @@ fn properly(v: u64, w: u64) -> bool
     (v & w == v) & (v != w)
 }
 
-// Whether some of the first `count` words is a proper subset of `w`.
-fn smaller(list: &[u64], count: usize, w: u64) -> bool
-    requires { ⌜ count ≤ length (now list) ⌝ }
-    ensures { λ r. ⌜ r ≡ anyOf (properIn w) (take count (now (list .entry))) ⌝ }
+// Whether some of the first `members` words is a proper subset of `w`.
+fn smaller(list: &[u64], members: usize, w: u64) -> bool
+    requires { ⌜ members ≤ length (now list) ⌝ }
+    ensures { λ r. ⌜ r ≡ anyOf (properIn w) (take members (now (list .entry))) ⌝ }
 {
     let mut q: usize = 0;
-    while q < count {
+    while q < members {
         if properly(list[q], w) {
             return true;
         }
@@ -129,23 +128,23 @@ fn smaller(list: &[u64], count: usize, w: u64) -> bool
     false
 }
 
-// Whether `w` is minimal among the first `count` words.
-fn minimal_among(list: &[u64], count: usize, w: u64) -> bool
-    requires { ⌜ count ≤ length (now list) ⌝ }
-    ensures { λ r. ⌜ r ≡ leastIn (take count (now (list .entry))) w ⌝ }
+// Whether `w` is minimal among the first `members` words.
+fn minimal_among(list: &[u64], members: usize, w: u64) -> bool
+    requires { ⌜ members ≤ length (now list) ⌝ }
+    ensures { λ r. ⌜ r ≡ leastIn (take members (now (list .entry))) w ⌝ }
 {
-    !smaller(list, count, w)
+    !smaller(list, members, w)
 }
 
-// Copies into `kept` the minimal ones of the first `count` words.
-fn keep_minimal(list: &[u64], count: usize, kept: &mut [u64]) -> usize
-    requires { ⌜ (count ≤ length (now list)) × (count ≤ length (now kept)) ⌝ }
-    ensures { λ r. ⌜ Sifted (sift (leastIn (take count (now (list .entry)))) (take count (now (list .entry)))) count (now (kept .exit)) r ⌝ }
+// Copies into `kept` the minimal ones of the first `members` words.
+fn keep_minimal(list: &[u64], members: usize, kept: &mut [u64]) -> usize
+    requires { ⌜ (members ≤ length (now list)) × (members ≤ length (now kept)) ⌝ }
+    ensures { λ r. ⌜ Sifted (sift (leastIn (take members (now (list .entry)))) (take members (now (list .entry)))) members (now (kept .exit)) r ⌝ }
 {
     let mut n: usize = 0;
     let mut p: usize = 0;
-    while p < count {
-        if minimal_among(list, count, list[p]) {
+    while p < members {
+        if minimal_among(list, members, list[p]) {
             kept[n] = list[p];
             n += 1;
             p += 1;
@@ -156,25 +155,25 @@ fn keep_minimal(list: &[u64], count: usize, kept: &mut [u64]) -> usize
     n
 }
 
-// Leaves the minimal models at the start of `a`, from stage 0, which stands in its first place.
+// Leaves the minimal models at the start of `first`, from stage 0, which stands in its first place.
 fn minimal_from<'a>(
     heads: &'a [u64],
     bodies: &'a [u64],
     count: usize,
-    a: &mut [u64],
-    b: &mut [u64],
+    first: &mut [u64],
+    second: &mut [u64],
 ) -> usize
     requires { ⌜ (count ≤ length (now heads)) × (count ≤ length (now bodies)) ⌝ }
-    requires { ⌜ Settling (rulesFrom (now heads) (now bodies) 0 count) (now a) 1 (now b) 0 ⌝ }
-    ensures { λ r. ⌜ Minimals (rulesFrom (now (heads .entry)) (now (bodies .entry)) 0 count) (length (now (a .entry))) r (now (a .exit)) (now (b .exit)) ⌝ }
+    requires { ⌜ Iterating (tabulate (ruleAt (now heads) (now bodies)) count) (now first) 1 (now second) 0 ⌝ }
+    ensures { λ r. ⌜ Minimals (tabulate (ruleAt (now (heads .entry)) (now (bodies .entry))) count) (length (now (first .entry))) r (now (first .exit)) (now (second .exit)) ⌝ }
 {
-    let room = a.len();
-    let n = settle(heads, bodies, count, a, 1, b, 0);
+    let room = first.len();
+    let n = iterate(heads, bodies, count, first, 1, second, 0);
     if room < n {
         return n;
     }
-    let k = keep_models(heads, bodies, count, a, n, b);
-    keep_minimal(b, k, a)
+    let k = keep_models(heads, bodies, count, first, n, second);
+    keep_minimal(second, k, first)
 }
 
 // Forms the stages of a positive program in two working slices of one length, and leaves its minimal models, rising, at the start of the first.
@@ -187,7 +186,7 @@ pub fn minimal_models<'a>(
     second: &mut [u64],
 ) -> usize
     requires { ⌜ (count ≤ length (now heads)) × (count ≤ length (now bodies)) × (length (now second) ≡ length (now first)) ⌝ }
-    ensures { λ r. ⌜ Minimals (rulesFrom (now (heads .entry)) (now (bodies .entry)) 0 count) (length (now (first .entry))) r (now (first .exit)) (now (second .exit)) ⌝ }
+    ensures { λ r. ⌜ Minimals (tabulate (ruleAt (now (heads .entry)) (now (bodies .entry))) count) (length (now (first .entry))) r (now (first .exit)) (now (second .exit)) ⌝ }
 {
     if first.len() == 0 {
         return 1;

@@ -13,24 +13,26 @@ use Rattle.rising.specs.RisingSets.{insertInto, addAll}
 use Rattle.rising.specs.Literals.{bitsFrom}
 use Rattle.operator.specs.Operator.{WordRule, choices, next, stage}
 use Rattle.stages.specs.Run.{resting, ending, finalStage}
-use Rattle.stages.specs.Minimal.{violates, satisfies, properIn, leastIn, minimals, minimalModels}
-use Rattle.transform.specs.Transform.{numbered, rewritten, becomes, standIns, allStandIns, epistemic, members}
+use Rattle.stages.specs.Minimal.{minimals, minimalModels}
+use Rattle.transform.specs.Transform.{numbered, rewritten, becomes, standIns, allStandIns, kappaFrom, members}
 use Rattle.transform.specs.Listing.{canonical, listing}
 
 -- what the fixpoint lists of a book
 abbrev fixpointOf : Book → List ℕ
-fixpointOf b = listing (2 * b .names) (epistemic (2 * b .names) (2 * b .names + 2 * b .names) (clausesOf b))
+fixpointOf b = listing (2 * b .names) (kappaFrom (2 * b .names) (2 * b .names + 2 * b .names) (clausesOf b))
 
 -- all eleven at once, by computation
 pub fixpoint-books-hold : map fixpointOf books ≡ map modelsOf books
-unfolding books wordOf clauseOfValues wordBy bitsOf anyOf sift mask least same insertInto addAll bitsFrom choices next stage resting ending finalStage violates satisfies properIn leastIn minimals minimalModels numbered rewritten becomes standIns epistemic canonical listing flatMap
+unfolding books wordOf clauseOfValues wordBy bitsOf anyOf sift mask least same insertInto addAll bitsFrom choices next stage resting ending finalStage
+    minimals minimalModels numbered rewritten becomes standIns kappaFrom canonical listing flatMap
 fixpoint-books-hold = refl
 
 -- the stages of the source's Example 2.11: a ∨ b ← c, ¬d ← c, c ←, ← a, b, over a, b, c, d
 abbrev example : List WordRule
 example = record { head = 0b00000101; body = 0b00010000 } ∷ record { head = 0b10000000; body = 0b00010000 } ∷ record { head = 0b00010000; body = 0 } ∷ record { head = 0; body = 0b00000101 } ∷ []
 
-pub example-stages : map (stage example) (0 ∷ 1 ∷ 2 ∷ 3 ∷ 4 ∷ []) ≡ (0 ∷ []) ∷ (0b00010000 ∷ []) ∷ (0b10010001 ∷ 0b10010100 ∷ []) ∷ (0b10010001 ∷ 0b10010100 ∷ 0b10010101 ∷ []) ∷ (0b10010001 ∷ 0b10010100 ∷ 0b10010101 ∷ []) ∷ []
+pub example-stages : map (stage example) (0 ∷ 1 ∷ 2 ∷ 3 ∷ 4 ∷ []) ≡ (0 ∷ []) ∷ (0b00010000 ∷ []) ∷ (0b10010001 ∷ 0b10010100 ∷ []) ∷ (0b10010001 ∷ 0b10010100 ∷ 0b10010101 ∷ []) ∷
+    (0b10010001 ∷ 0b10010100 ∷ 0b10010101 ∷ []) ∷ []
 unfolding mask insertInto addAll bitsFrom choices next stage flatMap
 example-stages = refl
 

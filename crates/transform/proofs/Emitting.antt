@@ -1,22 +1,24 @@
--- The loops that put out the transformed clauses. Assumes nothing.
+-- The loops that put out the transformed clauses: one law for each that says what a step needs, and one for what it gives. Assumes nothing.
 use Prim.Native.Nat.{ℕ, zero, suc, _+_, _*_, _/_, _^_, _%_, _≤_, _<_}
 use borrow.Author.Needs.{needs}
 use borrow.Author.Tests.{eq-eqb, ne-eqb}
 use lib.Bits.{bitOr, or-zero-r}
-use lib.Count.{trailingZeros}
+use lib.Count.{trailingZeros, ones, ones-step, ones-le}
 use lib.Dec.{lit<}
 use lib.ListN.{length}
 use lib.Pow.{shl-exact}
-use mathlib.Core.List.{List, [], _∷_, flatMap, append-nil}
+use mathlib.Core.List.{List, [], _∷_, flatMap}
 use mathlib.Core.Path.{_≡_, refl, sym, ap, ap₂, _∙_, subst}
 use mir.Syntax.{w64}
 use mir.Val.{Fits}
-use native.Mathlib.Nat.{one-mul, add-zero}
+use native.Mathlib.Nat.{one-mul, pow-suc}
 use native.Mathlib.Omega.{arith}
 use Rattle.sets.specs.Words.{mask}
+use Rattle.rising.proofs.Literals.{low-less}
 use Rattle.rising.specs.Literals.{here, bitsFrom, literals, low}
-use Rattle.operator.specs.Operator.{WordRule, rulesFrom}
-use Rattle.transform.proofs.Emit.{emits-one, emits-as, Walk, walk-start, walk-literal, walk-place, walk-room, walk-step, walk-less, walk-heads, walk-bodies, walk-done}
+use Rattle.operator.specs.Operator.{WordRule}
+use Rattle.transform.proofs.Emit.{emits-one, emits-none, emits-as, room-one, room-as, room-first, room-then, emits-then, Emitting, Walk, walk-start, walk-literal}
+use Rattle.transform.proofs.Emit.{walk-place, walk-room, walk-step, walk-heads, walk-bodies, walk-done}
 use Rattle.transform.specs.Emit.{Emits, Room, forEach, oneB, oneC, eachC, eachD}
 use Rattle.transform.specs.Transform.{Stand, numbered, clauseB, clauseC, clauseD}
 
@@ -32,52 +34,65 @@ couple-is t u x y p q = ap₂ bitOr (p ∙ or-zero-r (2 ^ t)) q
 
 -- ---- one clause
 
-pub room-there : (c : WordRule) (hs bs : List ℕ) (at : ℕ) → Room (c ∷ []) hs bs at → (at < length hs) × (at < length bs)
-room-there c hs bs at r = (omega (arith, r .heads), omega (arith, r .bodies))
-
-pub b-there : (p : Stand) (hs bs : List ℕ) (at : ℕ) → Room (oneB p) hs bs at → (at < length hs) × (at < length bs)
-unfolding oneB
-b-there p hs bs at r = room-there (clauseB p) hs bs at r
-
 pub b-is : (t p h b : ℕ) (hs bs : List ℕ) (at : ℕ) (hs′ bs′ : List ℕ) (r : ℕ) → h ≡ mask (t ∷ []) → b ≡ mask (p ∷ []) → Emits (record { head = h; body = b } ∷ []) hs bs at hs′ bs′ r
     → Emits (oneB (record { literal = t; at = p })) hs bs at hs′ bs′ r
 unfolding oneB
 b-is t p h b hs bs at hs′ bs′ r e f g = emits-as _ _ hs bs at hs′ bs′ r (ap₂ (λ (x y : ℕ). record { head = x; body = y } ∷ []) e f) g
-
-pub c-there : (a : ℕ) (n : Stand) (hs bs : List ℕ) (at : ℕ) → Room (oneC a n) hs bs at → (at < length hs) × (at < length bs)
-unfolding oneC
-c-there a n hs bs at r = room-there (clauseC a (n .literal)) hs bs at r
 
 pub c-is : (a t b : ℕ) (hs bs : List ℕ) (at : ℕ) (hs′ bs′ : List ℕ) (r : ℕ) → b ≡ mask (a ∷ t ∷ []) → Emits (record { head = 0; body = b } ∷ []) hs bs at hs′ bs′ r
     → Emits (oneC a (record { literal = t; at = 0 })) hs bs at hs′ bs′ r
 unfolding oneC mask
 c-is a t b hs bs at hs′ bs′ r e g = emits-as _ _ hs bs at hs′ bs′ r (ap (λ (y : ℕ). record { head = 0; body = y } ∷ []) e) g
 
+-- (b) and (c) are one clause each
+pub b-there : (p : Stand) (d : WordRule) (hs bs : List ℕ) (at : ℕ) → Room (oneB p) hs bs at → Room (d ∷ []) hs bs at
+unfolding oneB
+b-there p d hs bs at r = room-one (clauseB p) d hs bs at r
+
+pub c-there : (a : ℕ) (n : Stand) (d : WordRule) (hs bs : List ℕ) (at : ℕ) → Room (oneC a n) hs bs at → Room (d ∷ []) hs bs at
+unfolding oneC
+c-there a n d hs bs at r = room-one (clauseC a (n .literal)) d hs bs at r
+
+-- (d) is none for a literal and its own stand-in
 module _ (t p u q : ℕ) (hs bs : List ℕ) (at : ℕ) where
   pub d-none : t ≡ u → Emits (clauseD (record { literal = t; at = p }) (record { literal = u; at = q })) hs bs at hs bs at
-  d-none e = emits-as [] (clauseD (record { literal = t; at = p }) (record { literal = u; at = q })) hs bs at hs bs at (sym (rw (eq-eqb t u e)))
-      (record { count = sym (add-zero at); rules = sym (append-nil (rulesFrom hs bs 0 at)); heads = refl; bodies = refl; heads-behind = refl; bodies-behind = refl })
+  d-none e = emits-as [] (clauseD (record { literal = t; at = p }) (record { literal = u; at = q })) hs bs at hs bs at (sym (rw (eq-eqb t u e))) (emits-none hs bs at)
 
   two-apart : (t ≡ u → ⊥) → clauseD (record { literal = t; at = p }) (record { literal = u; at = q }) ≡ record { head = mask (p ∷ []); body = mask (t ∷ q ∷ []) } ∷ []
   two-apart n = rw (ne-eqb t u n)
 
-  pub d-there : (t ≡ u → ⊥) → Room (clauseD (record { literal = t; at = p }) (record { literal = u; at = q })) hs bs at → (at < length hs) × (at < length bs)
-  d-there n r = room-there (record { head = mask (p ∷ []); body = mask (t ∷ q ∷ []) }) hs bs at (subst (λ (X : List WordRule). Room X hs bs at) (two-apart n) r)
+  pub d-there : (d : WordRule) → (t ≡ u → ⊥) → Room (clauseD (record { literal = t; at = p }) (record { literal = u; at = q })) hs bs at → Room (d ∷ []) hs bs at
+  d-there d n r = room-one _ d hs bs at (room-as _ _ hs bs at (two-apart n) r)
 
   pub d-is : (h b : ℕ) (hs′ bs′ : List ℕ) (r : ℕ) → (t ≡ u → ⊥) → h ≡ mask (p ∷ []) → b ≡ mask (t ∷ q ∷ []) → Emits (record { head = h; body = b } ∷ []) hs bs at hs′ bs′ r
       → Emits (clauseD (record { literal = t; at = p }) (record { literal = u; at = q })) hs bs at hs′ bs′ r
   d-is h b hs′ bs′ r n e f g = emits-as _ _ hs bs at hs′ bs′ r (ap₂ (λ (x y : ℕ). record { head = x; body = y } ∷ []) e f ∙ sym (two-apart n)) g
 
--- ---- a walk whose clauses do not mind the numbering
+-- ---- how many literals a word has
 
-here-short : (d p k : ℕ) (l : List ℕ) → length l ≤ k → length (here d p l) ≤ suc k
-here-short zero p k l h = omega arith
-here-short (suc d) p k l h = omega arith
+here-length : (d p : ℕ) (l : List ℕ) → d < 2 → length (here d p l) ≡ d + length l
+here-length zero p l h = omega arith
+here-length (suc d) p l h = omega arith
 
-pub bits-short : (k p s : ℕ) → length (bitsFrom k p s) ≤ k
-unfolding bitsFrom
-bits-short zero p s = omega arith
-bits-short (suc k) p s = here-short (s % 2) p k (bitsFrom k (p + 1) (s / 2)) (bits-short k (p + 1) (s / 2))
+bits-length : (k p s : ℕ) → s < 2 ^ k → length (bitsFrom k p s) ≡ ones s
+unfolding bitsFrom ones
+bits-length zero p s h = let e : 0 ≡ s = omega arith in ap ones e
+bits-length (suc k) p s h = here-length (s % 2) p (bitsFrom k (p + 1) (s / 2)) (omega arith)
+    ∙ ap (λ (n : ℕ). s % 2 + n) (bits-length k (p + 1) (s / 2) (let e = pow-suc 2 k in omega arith)) ∙ sym (ones-step s)
+
+pub literals-length : (w : ℕ) → w < 2 ^ 64 → length (literals w) ≡ ones w
+literals-length w h = bits-length 64 0 w h
+
+pub literals-few : (w : ℕ) → w < 2 ^ 64 → length (literals w) ≤ 64
+literals-few w h = let e = literals-length w h in let o = ones-le 64 w h in omega arith
+
+-- ---- the walk of (b)
+
+module _ (head s : ℕ) (hs₀ bs₀ : List ℕ) (at₀ rest p : ℕ) (hs bs : List ℕ) (at : ℕ) (w : Walk oneB head s hs₀ bs₀ at₀ rest p hs bs at) where
+  pub b-room : (t : ℕ) → (rest ≡ 0 → ⊥) → t ≡ trailingZeros 64 rest → Room (oneB (record { literal = t; at = p })) hs bs at
+  b-room t n e = walk-room oneB head s hs₀ bs₀ at₀ rest p hs bs at w t n e
+
+-- ---- the walk of (c) for one stand-in, which does not mind the numbering
 
 renumber : (a : ℕ) (l : List ℕ) (p q : ℕ) → flatMap (oneC a) (numbered p l) ≡ flatMap (oneC a) (numbered q l)
 unfolding flatMap numbered oneC
@@ -86,7 +101,7 @@ renumber a (x ∷ l) p q = ap (λ (R : List WordRule). clauseC a x ∷ R) (renum
 
 module _ (a naf : ℕ) (hs₀ bs₀ : List ℕ) (at₀ : ℕ) where
   pub run-start : Fits w64 naf → Room (forEach (oneC a) 0 naf) hs₀ bs₀ at₀ → Walk (oneC a) naf 0 hs₀ bs₀ at₀ naf 0 hs₀ bs₀ at₀
-  run-start h r = walk-start (oneC a) naf 0 hs₀ bs₀ at₀ (h .fits) (let b = bits-short 64 0 naf in omega arith) r
+  run-start h r = walk-start (oneC a) naf 0 hs₀ bs₀ at₀ h (let b = literals-few naf (h .fits) in omega arith) r
 
   pub run-step : (rest : ℕ) (hs bs : List ℕ) (at t : ℕ) (hs′ bs′ : List ℕ) (r : ℕ) → Walk (oneC a) naf 0 hs₀ bs₀ at₀ rest 0 hs bs at → (rest ≡ 0 → ⊥) → t ≡ trailingZeros 64 rest
       → Emits (oneC a (record { literal = t; at = 0 })) hs bs at hs′ bs′ r → Walk (oneC a) naf 0 hs₀ bs₀ at₀ (low rest) 0 hs′ bs′ r
@@ -94,9 +109,13 @@ module _ (a naf : ℕ) (hs₀ bs₀ : List ℕ) (at₀ : ℕ) where
       let v = walk-step (oneC a) naf 0 hs₀ bs₀ at₀ rest 0 hs bs at w t hs′ bs′ r n e c in
       record {
         small = v .small;
-        places = let b = bits-short 64 0 (low rest) in omega arith;
-        emits = subst (λ (R : List WordRule). Rattle.transform.proofs.Emit.Emitting (forEach (oneC a) 0 naf) R hs₀ bs₀ at₀ hs′ bs′ r) (renumber a (literals (low rest)) (0 + 1) 0) (v .emits);
+        places = let b = literals-few (low rest) (v .small) in omega arith;
+        emits = subst (λ (R : List WordRule). Emitting (forEach (oneC a) 0 naf) R hs₀ bs₀ at₀ hs′ bs′ r) (renumber a (literals (low rest)) (0 + 1) 0) (v .emits);
       }
+
+  pub run-room : (rest : ℕ) (hs bs : List ℕ) (at t : ℕ) → Walk (oneC a) naf 0 hs₀ bs₀ at₀ rest 0 hs bs at → (rest ≡ 0 → ⊥) → t ≡ trailingZeros 64 rest
+      → Room (oneC a (record { literal = t; at = 0 })) hs bs at
+  run-room rest hs bs at t w n e = walk-room (oneC a) naf 0 hs₀ bs₀ at₀ rest 0 hs bs at w t n e
 
 -- ---- a walk whose clauses are a callee's
 
@@ -119,34 +138,15 @@ module _ (head s : ℕ) (hs₀ bs₀ : List ℕ) (at₀ rest p : ℕ) (hs bs : L
   unfolding eachD
   d-step t hs′ bs′ r n e c = walk-step (eachD head s) head s hs₀ bs₀ at₀ rest p hs bs at w t hs′ bs′ r n e c
 
-pub walk-begin : (f : Stand → List WordRule) (head s : ℕ) (hs₀ bs₀ : List ℕ) (at₀ : ℕ) → Fits w64 head → s + length (literals head) ≤ 64 → Room (forEach f s head) hs₀ bs₀ at₀ → Walk f head s hs₀ bs₀ at₀ head s hs₀ bs₀ at₀
-walk-begin f head s hs₀ bs₀ at₀ h l r = walk-start f head s hs₀ bs₀ at₀ (h .fits) l r
+-- ---- the walk of (d) for one head literal
 
-pub ruleset emitting = (
-  single-is,
-  couple-is,
-  emits-one,
-  b-there,
-  b-is,
-  c-there,
-  c-is,
-  d-none,
-  d-there,
-  d-is,
-  walk-begin,
-  walk-literal,
-  walk-place,
-  walk-room,
-  walk-step,
-  walk-less,
-  walk-heads,
-  walk-bodies,
-  walk-done,
-  run-start,
-  run-step,
-  c-room,
-  c-step,
-  d-room,
-  d-step,
-  needs,
-)
+module _ (x : Stand) (head s : ℕ) (hs₀ bs₀ : List ℕ) (at₀ rest p : ℕ) (hs bs : List ℕ) (at : ℕ) (w : Walk (clauseD x) head s hs₀ bs₀ at₀ rest p hs bs at) where
+  pub pair-room : (t : ℕ) → (rest ≡ 0 → ⊥) → t ≡ trailingZeros 64 rest → Room (clauseD x (record { literal = t; at = p })) hs bs at
+  pair-room t n e = walk-room (clauseD x) head s hs₀ bs₀ at₀ rest p hs bs at w t n e
+
+pub ruleset clause-laws = (single-is, couple-is, emits-one, room-first, room-then, emits-then, b-there, b-is, c-there, c-is, d-none, d-there, d-is)
+
+pub ruleset walk-laws = (walk-start, walk-literal, walk-place, walk-step, low-less, walk-heads, walk-bodies, walk-done)
+
+-- what `search` is handed in the routines that put out (b), (c) and (d)
+pub ruleset emitting = (clause-laws, walk-laws, b-room, run-start, run-step, run-room, c-room, c-step, d-room, d-step, pair-room, needs)

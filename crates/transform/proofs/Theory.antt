@@ -1,7 +1,7 @@
 -- The epistemic transform of a program of masks (000, Definition 3.5), and that it is the theory's. Assumes nothing.
 use Prim.Native.Nat.{ℕ, suc, _+_, _^_, _≤_, _<_}
 use lib.Dec.{T, eqb, eqb→eq}
-use lib.ListN.{length, length-append}
+use lib.ListN.{length, length-append, length-map}
 use mathlib.Core.Bool.{Bool, true, false, not, cond}
 use mathlib.Core.List.{List, [], _∷_, _++_, map, flatMap}
 use mathlib.Core.Logic.{_⊎_, inl, inr}
@@ -28,7 +28,7 @@ use Rattle.rising.proofs.Literals.{lit-in, lit-out, bits-rising}
 use Rattle.stages.proofs.Minimal.{wordRule}
 use Rattle.rising.specs.Literals.{literals}
 use Rattle.operator.specs.Operator.{WordRule}
-use Rattle.transform.specs.Transform.{Stand, numbered, rule, clauseA, clauseB, clauseC, clauseD, rewritten, becomes, standIns, epistemic, allStandIns, members}
+use Rattle.transform.specs.Transform.{Stand, numbered, rule, clauseA, clauseB, clauseC, clauseD, rewritten, becomes, standIns, kappaFrom, allStandIns, members}
 use Rattle.epistemic.specs.Transform as theory
 
 -- the members of the transformed program, W: 2m literals and their K, and one for each stand-in
@@ -106,7 +106,8 @@ module _ (m : ℕ) (S : List Atom) (c : Tagged) where
   map-stand (x ∷ l) = ap (λ (k : List ℕ). name m S (stand c x) ∷ k) (map-stand l)
 
   is-a : wordRule (rename (name m S) (ruleA c)) ≡ clauseA m (map st (c .head)) (c .naf) (c .body)
-  is-a = ap₂ (λ (h b : List ℕ). rule h b) (map-++ (name m S) (map (stand c) (c .head)) (map know (c .naf)) ∙ ap₂ (λ (x y : List ℕ). x ++ y) (map-stand (c .head)) (map-know (c .naf))) (map-id-lit (c .body))
+  is-a = ap₂ (λ (h b : List ℕ). rule h b) (map-++ (name m S) (map (stand c) (c .head)) (map know (c .naf)) ∙ ap₂ (λ (x y : List ℕ). x ++ y) (map-stand (c .head)) (map-know (c .naf)))
+      (map-id-lit (c .body))
 
   is-b : (l : List ℕ) → map word (map (theory.ruleB c) l) ≡ map clauseB (map st l)
   unfolding word st name
@@ -159,7 +160,9 @@ module _ (m : ℕ) (fits : m ≤ 64) (S : List Atom) where
   one : (t s : ℕ) (c : Clause) (C : List Clause) → Below m c → Placed s (taggedOf m t c ∷ taggedFrom m (suc t) C)
       → becomes m s c ≡ map (word m S (taggedOf m t c)) (kappaOf (taggedOf m t c))
   unfolding becomes taggedOf Placed st
-  one t s c C b h = sym (is-of m S (taggedOf m t c) ∙ go (noNaf (unmask m (c .naf))) refl ∙ ap (λ (z : Bool). cond z (rule (literals (c .head)) (literals (c .body)) ∷ []) (rewritten m (numbered s (literals (c .head))) (literals (c .naf)) (literals (c .body)))) (noNaf-zero m (c .naf) (b .nafs)))
+  one t s c C b h = sym (is-of m S (taggedOf m t c) ∙ go (noNaf (unmask m (c .naf))) refl ∙ ap
+      (λ (z : Bool). cond z (rule (literals (c .head)) (literals (c .body)) ∷ []) (rewritten m (numbered s (literals (c .head))) (literals (c .naf)) (literals (c .body))))
+      (noNaf-zero m (c .naf) (b .nafs)))
     where
       H : unmask m (c .head) ≡ literals (c .head)
       H = literals-unmask m (c .head) fits (b .heads)
@@ -191,24 +194,21 @@ module _ (m : ℕ) (fits : m ≤ 64) (S : List Atom) where
   tags t (c ∷ C) e (inl q) = omega (arith, ap (λ (z : Tagged). z .tag) q)
   tags t (c ∷ C) e (inr i) = let h = tags (suc t) C e i in omega arith
 
-  all : (C : List Clause) (t s : ℕ) → Each (Below m) C → Placed s (taggedFrom m t C) → epistemic m s C ≡ map wordRule (map (rename (name m S)) (kappa (taggedFrom m t C)))
-  unfolding epistemic taggedFrom taggedOf kappa flatMap Placed
+  all : (C : List Clause) (t s : ℕ) → Each (Below m) C → Placed s (taggedFrom m t C) → kappaFrom m s C ≡ map wordRule (map (rename (name m S)) (kappa (taggedFrom m t C)))
+  unfolding kappaFrom taggedFrom taggedOf kappa flatMap Placed
   all [] t s b h = refl
   all (c ∷ C) t s b h =
       ap₂ (λ (x y : List WordRule). x ++ y)
       (one t s c C (b c (inl refl)) h ∙ sym (map-words m S (taggedOf m t c) (kappaOf (taggedOf m t c))))
-      (ap (λ k. epistemic m k C) (ap (λ k. s + k) (sym (slots-are t c (b c (inl refl)))))
+      (ap (λ k. kappaFrom m k C) (ap (λ k. s + k) (sym (slots-are t c (b c (inl refl)))))
       ∙ all C (suc t) (s + slots-of (taggedOf m t c)) (λ x i. b x (inr i)) (λ e i n x k.
-      h e (inr i) n x k ∙ ap (λ j. s + j) (slot-there (taggedOf m t c) e (taggedFrom m (suc t) C) (λ q. let g = tags (suc t) C e i in tag-not t c e q g) x) ∙ sym (add-assoc s (slots-of (taggedOf m t c)) (place Atom-discrete (stand e x) (stands (taggedFrom m (suc t) C))))))
+      h e (inr i) n x k ∙ ap (λ j. s + j) (slot-there (taggedOf m t c) e (taggedFrom m (suc t) C) (λ q. let g = tags (suc t) C e i in tag-not t c e q g) x) ∙ sym
+      (add-assoc s (slots-of (taggedOf m t c)) (place Atom-discrete (stand e x) (stands (taggedFrom m (suc t) C))))))
       ∙ sym (map-++ wordRule (map (rename (name m S)) (kappaOf (taggedOf m t c))) (map (rename (name m S)) (flatMap kappaOf (taggedFrom m (suc t) C))))
       ∙ ap (map wordRule) (sym (map-++ (rename (name m S)) (kappaOf (taggedOf m t c)) (flatMap kappaOf (taggedFrom m (suc t) C))))
     where
       tag-not : (t : ℕ) (c : Clause) (e : Tagged) → e .tag ≡ taggedOf m t c .tag → suc t ≤ e .tag → ⊥
       tag-not t c e q g = omega arith
-
-length-map : {A B : Type 0} (f : A → B) (l : List A) → length (map f l) ≡ length l
-length-map f [] = refl
-length-map f (x ∷ l) = ap suc (length-map f l)
 
 counted : (m : ℕ) (fits : m ≤ 64) (C : List Clause) (t : ℕ) → Each (Below m) C → length (stands (taggedFrom m t C)) ≡ allStandIns C
 unfolding taggedFrom stands flatMap allStandIns
@@ -218,12 +218,12 @@ counted m fits (c ∷ C) t b = length-append (cond (noNaf (taggedOf m t c .naf))
   where
     slots : (z : Bool) → length (cond z [] (map (stand (taggedOf m t c)) (taggedOf m t c .head))) ≡ cond z 0 (length (taggedOf m t c .head))
     slots true = refl
-    slots false = length-map (stand (taggedOf m t c)) (taggedOf m t c .head)
+    slots false = length-map (taggedOf m t c .head) (stand (taggedOf m t c))
 
 -- the transform is the theory's
-pub epistemic-is : (m : ℕ) (C : List Clause) → m ≤ 64 → Each (Below m) C → epistemic m (m + m) C ≡ transformed m (taggedFrom m 0 C)
+pub kappa-is : (m : ℕ) (C : List Clause) → m ≤ 64 → Each (Below m) C → kappaFrom m (m + m) C ≡ transformed m (taggedFrom m 0 C)
 unfolding transformed program name Placed
-epistemic-is m C fits b = all m fits (stands (taggedFrom m 0 C)) C 0 (m + m) b (λ c i n x k. refl)
+kappa-is m C fits b = all m fits (stands (taggedFrom m 0 C)) C 0 (m + m) b (λ c i n x k. refl)
 
 -- and W counts its members
 pub members-are : (m : ℕ) (C : List Clause) → m ≤ 64 → Each (Below m) C → vocabularySize m (taggedFrom m 0 C) ≡ members m C

@@ -17,5 +17,8 @@ unfoldable pub canonical : ℕ → ℕ → Bool
 canonical m w = inside (literalPart m (w / 2 ^ m)) (literalPart m w)
 
 -- "Their literal parts, distinct and rising, are the list."
+abbrev pub partsOf : ℕ → List ℕ → List ℕ
+partsOf m l = gather (map (literalPart m) (sift (canonical m) l))
+
 unfoldable pub listing : ℕ → List WordRule → List ℕ
-listing m Q = gather (map (literalPart m) (sift (canonical m) (minimalModels Q)))
+listing m Q = partsOf m (minimalModels Q)

@@ -51,10 +51,10 @@ becomes m s c = cond (eqb (c .naf) 0) (rule (literals (c .head)) (literals (c .b
 unfoldable pub standIns : Clause → ℕ
 standIns c = cond (eqb (c .naf) 0) 0 (length (literals (c .head)))
 
--- the transform
-unfoldable pub epistemic : ℕ → ℕ → List Clause → List WordRule
-epistemic m s [] = []
-epistemic m s (c ∷ C) = becomes m s c ++ epistemic m (s + standIns c) C
+-- the transform, the stand-ins of all clauses from s on
+unfoldable pub kappaFrom : ℕ → ℕ → List Clause → List WordRule
+kappaFrom m s [] = []
+kappaFrom m s (c ∷ C) = becomes m s c ++ kappaFrom m (s + standIns c) C
 
 -- how many stand-ins there are
 unfoldable pub allStandIns : List Clause → ℕ

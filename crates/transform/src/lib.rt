@@ -1,16 +1,18 @@
 // The epistemic transform of a program, put out as words into two slices.
 ghost use mathlib.Core.Path.{_≡_};
-ghost use mathlib.Core.List.{List, [], _∷_, map};
-ghost use Prim.Native.Nat.{ℕ, _+_, _^_, _≤_, _<_};
+ghost use mathlib.Core.List.{[], _∷_, _++_, map};
+ghost use Prim.Native.Nat.{_+_, _^_, _≤_, _<_};
 ghost use lib.ListN.{length};
+ghost use Rattle.sets.specs.Lists.{tabulate};
 ghost use Rattle.sets.specs.Words.{mask};
 ghost use Rattle.rising.specs.Literals.{literals};
-ghost use Rattle.transform.specs.Transform.{clauseD, standIns, becomes, allStandIns, members, epistemic};
-ghost use Rattle.transform.specs.Emit.{Emits, Room, Book, forEach, oneB, oneC, eachC, eachD, standMask, headA, clausesFrom};
+ghost use Rattle.program.specs.Clauses.{clauseOf, clauseAt};
+ghost use Rattle.transform.specs.Transform.{clauseD, standIns, becomes, allStandIns, members, kappaFrom};
+ghost use Rattle.transform.specs.Emit.{Emits, Room, forEach, oneB, oneC, eachC, eachD, standMask, headA, rewrittenFrom, Rewrites, Takes, ClausesOver};
 
 // Puts a clause behind the first `at`.
 fn push(hs: &mut [u64], bs: &mut [u64], at: usize, head: u64, body: u64) -> usize
-    requires { ⌜ (at < length (now hs)) × (at < length (now bs)) ⌝ }
+    requires { ⌜ Room (record { head = head; body = body } ∷ []) (now hs) (now bs) at ⌝ }
     ensures { λ r. ⌜ Emits (record { head = head; body = body } ∷ []) (now (hs .entry)) (now (bs .entry)) at (now (hs .exit)) (now (bs .exit)) r ⌝ }
 {
     hs[at] = head;
@@ -139,88 +141,97 @@ fn emit_d(head: u64, s: u32, hs: &mut [u64], bs: &mut [u64], at: usize) -> usize
     n
 }
 
-// The word of the stand-ins of a head, from `s` on.
-fn stand_mask(head: u64, s: u32) -> u64
+// (c) and (d).
+fn emit_cd(head: u64, s: u32, naf: u64, hs: &mut [u64], bs: &mut [u64], at: usize) -> usize
+    requires { ⌜ (s + length (literals head) ≤ 64) × Room (forEach (eachC naf) s head ++ forEach (eachD head s) s head) (now hs) (now bs) at ⌝ }
+    ensures { λ r. ⌜ Emits (forEach (eachC naf) s head ++ forEach (eachD head s) s head) (now (hs .entry)) (now (bs .entry)) at (now (hs .exit)) (now (bs .exit)) r ⌝ }
+{
+    let n = emit_c(head, s, naf, hs, bs, at);
+    emit_d(head, s, hs, bs, n)
+}
+
+// (b), (c) and (d).
+fn emit_bcd(head: u64, s: u32, naf: u64, hs: &mut [u64], bs: &mut [u64], at: usize) -> usize
+    requires { ⌜ (s + length (literals head) ≤ 64) × Room (forEach oneB s head ++ (forEach (eachC naf) s head ++ forEach (eachD head s) s head)) (now hs) (now bs) at ⌝ }
+    ensures { λ r. ⌜ Emits (forEach oneB s head ++ (forEach (eachC naf) s head ++ forEach (eachD head s) s head)) (now (hs .entry)) (now (bs .entry)) at (now (hs .exit)) (now (bs .exit)) r ⌝ }
+{
+    let n = emit_b(head, s, hs, bs, at);
+    emit_cd(head, s, naf, hs, bs, n)
+}
+
+// The word of the stand-ins of a head, from `s` on: so many ones, `s` places up.
+fn stand_mask(head: u32, s: u32) -> u64
     requires { ⌜ s + length (literals head) ≤ 64 ⌝ }
     ensures { λ r. ⌜ r ≡ standMask s head ⌝ }
 {
-    let mut rest = head;
-    let mut p = s;
-    let mut w: u64 = 0;
-    while rest != 0 {
-        w = rising::with(w, p);
-        rest = rest & (rest - 1);
-        p += 1;
-    }
-    w
-}
-
-// How many literals a word has.
-fn count_bits(head: u64) -> u32
-    ensures { λ r. ⌜ (r ≡ length (literals head)) × (r ≤ 64) ⌝ }
-{
-    let mut rest = head;
-    let mut n: u32 = 0;
-    while rest != 0 {
-        rest = rest & (rest - 1);
-        n += 1;
-    }
-    n
-}
-
-// How many stand-ins a clause gets.
-fn stand_ins(head: u64, body: u64, naf: u64) -> u32
-    ensures { λ r. ⌜ (r ≡ standIns (record { head = head; body = body; naf = naf })) × (r ≤ 64) ⌝ }
-{
-    if naf == 0 {
+    if head == 0 {
         return 0;
     }
-    count_bits(head)
+    ((1 << u32::count_ones(head)) - 1) << s
 }
 
 // K of each not-literal.
-fn beliefs(m: u32, naf: u64) -> u64
+fn beliefs(m: u32, naf: u32) -> u64
     requires { ⌜ (m ≤ 32) × (naf < 2 ^ m) ⌝ }
     ensures { λ r. ⌜ r ≡ mask (map (λ n. m + n) (literals naf)) ⌝ }
 {
-    naf << m
+    (naf as u64) << m
 }
 
 // (a): its head.
-fn head_a(m: u32, s: u32, head: u64, naf: u64) -> u64
+fn head_a(m: u32, s: u32, head: u32, naf: u32) -> u64
     requires { ⌜ (m ≤ 32) × (naf < 2 ^ m) × (s + length (literals head) ≤ 64) ⌝ }
     ensures { λ r. ⌜ r ≡ headA m s head naf ⌝ }
 {
     stand_mask(head, s) | beliefs(m, naf)
 }
 
-// What one clause becomes, its stand-ins from `s` on.
-fn emit_clause(
+// What a clause with a not-part becomes, its stand-ins from `s` on.
+fn rewrite(
     m: u32,
     s: u32,
-    head: u64,
-    body: u64,
-    naf: u64,
+    head: u32,
+    body: u32,
+    naf: u32,
     hs: &mut [u64],
     bs: &mut [u64],
     at: usize,
 ) -> usize
-    requires { ⌜ (m ≤ 32) × (naf < 2 ^ m) × (s + standIns (record { head = head; body = body; naf = naf }) ≤ 64) × Room (becomes m s (record { head = head; body = body; naf = naf })) (now hs) (now bs) at ⌝ }
-    ensures { λ r. ⌜ Emits (becomes m s (record { head = head; body = body; naf = naf })) (now (hs .entry)) (now (bs .entry)) at (now (hs .exit)) (now (bs .exit)) r ⌝ }
+    requires { ⌜ Rewrites m s head body naf (now hs) (now bs) at ⌝ }
+    ensures { λ r. ⌜ Emits (rewrittenFrom m s head body naf) (now (hs .entry)) (now (bs .entry)) at (now (hs .exit)) (now (bs .exit)) r ⌝ }
 {
-    if naf == 0 {
-        return push(hs, bs, at, head, body);
-    }
-    let n = push(hs, bs, at, head_a(m, s, head, naf), body);
-    let n2 = emit_b(head, s, hs, bs, n);
-    let n3 = emit_c(head, s, naf, hs, bs, n2);
-    emit_d(head, s, hs, bs, n3)
+    let n = push(hs, bs, at, head_a(m, s, head, naf), body as u64);
+    emit_bcd(head as u64, s, naf as u64, hs, bs, n)
 }
 
-fn wide(x: u32) -> u64
-    ensures { λ r. ⌜ r ≡ x ⌝ }
+// What one clause becomes.
+fn emit_clause(
+    m: u32,
+    s: u32,
+    head: u32,
+    body: u32,
+    naf: u32,
+    hs: &mut [u64],
+    bs: &mut [u64],
+    at: usize,
+) -> usize
+    requires { ⌜ Takes m s (clauseOf head body naf) (now hs) (now bs) at ⌝ }
+    ensures { λ r. ⌜ Emits (becomes m s (clauseOf head body naf)) (now (hs .entry)) (now (bs .entry)) at (now (hs .exit)) (now (bs .exit)) r ⌝ }
 {
-    x as u64
+    if naf == 0 {
+        return push(hs, bs, at, head as u64, body as u64);
+    }
+    rewrite(m, s, head, body, naf, hs, bs, at)
+}
+
+// How many stand-ins a clause gets.
+fn stand_ins(head: u32, body: u32, naf: u32) -> u32
+    ensures { λ r. ⌜ (r ≡ standIns (clauseOf head body naf)) × (r ≤ 64) ⌝ }
+{
+    if naf == 0 {
+        return 0;
+    }
+    u32::count_ones(head)
 }
 
 // How many stand-ins the clauses get.
@@ -231,12 +242,12 @@ pub fn count_stand_ins<'a>(
     count: usize,
 ) -> u32
     requires { ⌜ (count ≤ 64) × (count ≤ length (now heads)) × (count ≤ length (now bodies)) × (count ≤ length (now nafs)) ⌝ }
-    ensures { λ r. ⌜ (r ≡ allStandIns (clausesFrom (now (heads .entry)) (now (bodies .entry)) (now (nafs .entry)) 0 count)) × (r ≤ 4096) ⌝ }
+    ensures { λ r. ⌜ (r ≡ allStandIns (tabulate (clauseAt (now (heads .entry)) (now (bodies .entry)) (now (nafs .entry))) count)) × (r ≤ 4096) ⌝ }
 {
     let mut n: u32 = 0;
     let mut k: usize = 0;
     while k < count {
-        n += stand_ins(wide(heads[k]), wide(bodies[k]), wide(nafs[k]));
+        n += stand_ins(heads[k], bodies[k], nafs[k]);
         k += 1;
     }
     n
@@ -252,19 +263,16 @@ pub fn transform<'a>(
     hs: &mut [u64],
     bs: &mut [u64],
 ) -> usize
-    requires { ⌜ Book m (now heads) (now bodies) (now nafs) count ⌝ }
-    requires { ⌜ (members m (clausesFrom (now heads) (now bodies) (now nafs) 0 count) ≤ 64) × Room (epistemic m (m + m) (clausesFrom (now heads) (now bodies) (now nafs) 0 count)) (now hs) (now bs) 0 ⌝ }
-    ensures { λ r. ⌜ Emits (epistemic m (m + m) (clausesFrom (now (heads .entry)) (now (bodies .entry)) (now (nafs .entry)) 0 count)) (now (hs .entry)) (now (bs .entry)) 0 (now (hs .exit)) (now (bs .exit)) r ⌝ }
+    requires { ⌜ ClausesOver m (now heads) (now bodies) (now nafs) count ⌝ }
+    requires { ⌜ (members m (tabulate (clauseAt (now heads) (now bodies) (now nafs)) count) ≤ 64) × Room (kappaFrom m (m + m) (tabulate (clauseAt (now heads) (now bodies) (now nafs)) count)) (now hs) (now bs) 0 ⌝ }
+    ensures { λ r. ⌜ Emits (kappaFrom m (m + m) (tabulate (clauseAt (now (heads .entry)) (now (bodies .entry)) (now (nafs .entry))) count)) (now (hs .entry)) (now (bs .entry)) 0 (now (hs .exit)) (now (bs .exit)) r ⌝ }
 {
     let mut s = m + m;
     let mut n: usize = 0;
     let mut k: usize = 0;
     while k < count {
-        let head = wide(heads[k]);
-        let body = wide(bodies[k]);
-        let naf = wide(nafs[k]);
-        n = emit_clause(m, s, head, body, naf, hs, bs, n);
-        s += stand_ins(head, body, naf);
+        n = emit_clause(m, s, heads[k], bodies[k], nafs[k], hs, bs, n);
+        s += stand_ins(heads[k], bodies[k], nafs[k]);
         k += 1;
     }
     n

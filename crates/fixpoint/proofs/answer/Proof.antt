@@ -1,4 +1,4 @@
--- `fixpoint::answer` meets its contract. Assumes nothing.
+-- All are listed where there are places enough, and else as many as there are. Assumes nothing.
 use Rattle.fixpoint.proofs.Answering.{answering}
 use Rattle.fixpoint.proofs.answer.Statement.{statement}
 use Rattle.fixpoint.proofs.answer.Tie as tie

@@ -1,9 +1,6 @@
--- `fixpoint::collect` meets its contract. Assumes nothing.
+-- The loop keeps that the set and the literal parts of the canonical words from `p` on make the whole. Assumes nothing.
 use Prim.Native.Nat.{_-_}
-use Rattle.fixpoint.proofs.Collecting.{Collecting}
-use Rattle.fixpoint.proofs.Collecting.{collecting-keep}
-use Rattle.fixpoint.proofs.Collecting.{collecting-done}
-use Rattle.fixpoint.proofs.Collecting.{collecting}
+use Rattle.fixpoint.proofs.Collecting.{Collecting, collecting-keep, collecting}
 use Rattle.fixpoint.proofs.collect.Statement.{statement}
 use Rattle.fixpoint.proofs.collect.Tie as tie
 
@@ -13,8 +10,20 @@ Inv-loop list count m set₀ n₀ p₀ set n p = Collecting m list count set₀ 
 abbrev μ-loop : tie.MeasureT-loop
 μ-loop list count m set₀ n₀ p₀ set n p = count - p
 
+-- a canonical word: its literal part was put into the set
+loop-again : tie.Need-loop-again Inv-loop μ-loop
+loop-again c =
+    let at-insert = c .before .before in
+    let at-part = at-insert .before in
+    let at-branch = at-part .before .before .before in
+    let at-test = at-branch .before in
+    let at-body = at-test .before .before in
+    let at-loop = at-body .before .loop in
+    collecting-keep _ _ _ _ (at-loop .set) (at-loop .n) (at-loop .p) (at-loop .inv) _ _ _ _
+    (at-body .loop-test .taken) (at-test .is-canonical .ensures) (at-branch .if1 .taken) (at-part .low-part .ensures) (at-insert .insert .ensures)
+
 pub collect-spec : {M : Type 1} → statement M
-collect-spec = tie.close (tie.spec Inv-loop μ-loop (λ c. search collecting) (λ c. search collecting) (λ c. search collecting) (λ c. search collecting) (λ c. search collecting) (λ c. search collecting) (λ c. search collecting) (λ c. search collecting) (λ c. search collecting) (λ c. search collecting)
-    (λ c. let l = c .before .before .before .before .before .before .before .before .before .before .loop in let g = c .before .before .insert in collecting-keep _ _ _ _ (l .set) (l .n) (l .p) (l .inv) (c .before .before .before .before .before .before .before .is-canonical .result) (c .before .before .before .low-part .result) (g .result) (g .last .0)
-    (c .before .before .before .before .before .before .before .before .before .loop-test .taken) (c .before .before .before .before .before .before .before .is-canonical .ensures) (c .before .before .before .before .before .before .if1 .taken) (c .before .before .before .low-part .ensures) (g .ensures))
-    (λ c. search collecting) (λ c. search collecting) (λ c. search collecting) (λ c. search collecting) (λ c. let l = c .before .loop in collecting-done _ _ _ _ (l .set) (l .n) (l .p) (l .inv) (c .loop-test .left)))
+collect-spec = tie.close (tie.spec Inv-loop μ-loop (λ c. search collecting) (λ c. search collecting) (λ c. search collecting)
+    (λ c. search collecting) (λ c. search collecting) (λ c. search collecting) (λ c. search collecting) (λ c. search collecting)
+    (λ c. search collecting) (λ c. search collecting) loop-again (λ c. search collecting) (λ c. search collecting) (λ c. search collecting)
+    (λ c. search collecting) (λ c. search collecting))

@@ -1,4 +1,4 @@
--- `fixpoint::low_part` meets its contract. Assumes nothing.
+-- A mask of `m` ones keeps the literal part. Assumes nothing.
 use Rattle.fixpoint.proofs.Collecting.{collecting}
 use Rattle.fixpoint.proofs.low_part.Statement.{statement}
 use Rattle.fixpoint.proofs.low_part.Tie as tie

@@ -1,4 +1,4 @@
--- `fixpoint::refuse` meets its contract. Assumes nothing.
+-- The answer of a refusal. Assumes nothing.
 use Rattle.fixpoint.proofs.Answering.{answering}
 use Rattle.fixpoint.proofs.refuse.Statement.{statement}
 use Rattle.fixpoint.proofs.refuse.Tie as tie

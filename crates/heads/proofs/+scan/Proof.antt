@@ -9,9 +9,9 @@ use Rattle.heads.proofs.Rules.{scans}
 use Rattle.heads.proofs.scan.Reads as scan
 use Rattle.heads.proofs.scan.Kinds as scan-kinds
 use Rattle.heads.proofs.+scan.Lts-scan as lts
-use Rattle.heads.proofs.barren.Reads as barren-reads
+use Rattle.heads.proofs.infeasible.Reads as infeasible-reads
 use Rattle.heads.proofs.highest.Reads as highest-reads
-use Rattle.heads.proofs.settle_one.Reads as settle-one-reads
+use Rattle.heads.proofs.insert_made.Reads as insert-made-reads
 use Rattle.heads.proofs.+scan.{statement}
 use Rattle.heads.proofs.+scan.Tie.{close}
 
@@ -26,10 +26,10 @@ below t = and 3 scan-kinds.ps (falls 3 scan-kinds.ps _<_ μ-scan t) scan.Pre
 
 pub +scan-spec : {M : Type 1} → statement M
 +scan-spec = close μ-scan λ t. lts.spec (
-  barren-reads.Asked,
-  barren-reads.Learnt,
-  settle-one-reads.Asked,
-  settle-one-reads.Learnt,
+  infeasible-reads.Asked,
+  infeasible-reads.Learnt,
+  insert-made-reads.Asked,
+  insert-made-reads.Learnt,
   highest-reads.Asked,
   highest-reads.Learnt,
   below t,

@@ -1,16 +1,18 @@
 -- `operator::blocked` meets its contract. Assumes nothing.
 use Prim.Native.Nat.{_-_}
-use Rattle.operator.specs.Operator.{bars}
-use Rattle.operator.proofs.Stepping.{Passing}
+use Rattle.operator.specs.Operator.{ruleAt, bars}
+use Rattle.sets.proofs.Lists.{Lacks}
 use Rattle.operator.proofs.Stepping.{stepping}
 use Rattle.operator.proofs.blocked.Statement.{statement}
 use Rattle.operator.proofs.blocked.Tie as tie
 
 abbrev Inv-loop : tie.InvT-loop
-Inv-loop heads bodies count i k₀ k = Passing (bars i) heads bodies count k
+Inv-loop heads bodies count i k₀ k = Lacks (ruleAt heads bodies) count (bars i) 0 k
 
 abbrev μ-loop : tie.MeasureT-loop
 μ-loop heads bodies count i k₀ k = count - k
 
 pub blocked-spec : {M : Type 1} → statement M
-blocked-spec = tie.close (tie.spec Inv-loop μ-loop (λ c. search stepping) (λ c. search stepping) (λ c. search stepping) (λ c. search stepping) (λ c. search stepping) (λ c. search stepping) (λ c. search stepping) (λ c. search stepping) (λ c. search stepping) (λ c. search stepping) (λ c. search stepping))
+blocked-spec = tie.close (tie.spec
+    Inv-loop μ-loop (λ c. search stepping) (λ c. search stepping) (λ c. search stepping) (λ c. search stepping) (λ c. search stepping) (λ c. search stepping)
+    (λ c. search stepping) (λ c. search stepping) (λ c. search stepping) (λ c. search stepping) (λ c. search stepping))

@@ -1,16 +1,19 @@
 -- `operator::step` meets its contract. Assumes nothing.
 use Prim.Native.Nat.{_-_}
-use Rattle.operator.specs.Operator.{rulesFrom}
+use Rattle.sets.specs.Lists.{tabulate}
+use Rattle.operator.specs.Operator.{ruleAt}
 use Rattle.operator.proofs.Stepping.{Stepping}
 use Rattle.operator.proofs.Stepping.{stepping}
 use Rattle.operator.proofs.step.Statement.{statement}
 use Rattle.operator.proofs.step.Tie as tie
 
 abbrev Inv-loop : tie.InvT-loop
-Inv-loop heads bodies count stage members after₀ n₀ p₀ after n p = Stepping (rulesFrom heads bodies 0 count) stage members after₀ after n p
+Inv-loop heads bodies count stage members after₀ n₀ p₀ after n p = Stepping (tabulate (ruleAt heads bodies) count) stage members after₀ after n p
 
 abbrev μ-loop : tie.MeasureT-loop
 μ-loop heads bodies count stage members after₀ n₀ p₀ after n p = members - p
 
 pub step-spec : {M : Type 1} → statement M
-step-spec = tie.close (tie.spec Inv-loop μ-loop (λ c. search stepping) (λ c. search stepping) (λ c. search stepping) (λ c. search stepping) (λ c. search stepping) (λ c. search stepping) (λ c. search stepping) (λ c. search stepping) (λ c. search stepping) (λ c. search stepping) (λ c. search stepping))
+step-spec = tie.close (tie.spec
+    Inv-loop μ-loop (λ c. search stepping) (λ c. search stepping) (λ c. search stepping) (λ c. search stepping) (λ c. search stepping) (λ c. search stepping)
+    (λ c. search stepping) (λ c. search stepping) (λ c. search stepping) (λ c. search stepping) (λ c. search stepping))

@@ -5,4 +5,6 @@ use Rattle.rising.proofs.insert.Statement.{statement}
 use Rattle.rising.proofs.insert.Tie as tie
 
 pub insert-spec : {M : Type 1} → statement M
-insert-spec = tie.close (tie.spec (λ c. search needs) (λ c. search needs) (λ c. search needs) (λ c. search inserting) (λ c. search needs) (λ c. search needs) (λ c. search inserting) (λ c. search needs) (λ c. search needs) (λ c. search inserting) (λ c. search needs) (λ c. search needs) (λ c. search inserting))
+insert-spec = tie.close (tie.spec
+    (λ c. search needs) (λ c. search needs) (λ c. search needs) (λ c. search inserting) (λ c. search needs) (λ c. search needs) (λ c. search inserting)
+    (λ c. search needs) (λ c. search needs) (λ c. search inserting) (λ c. search needs) (λ c. search needs) (λ c. search inserting))

@@ -11,4 +11,6 @@ abbrev μ-loop : tie.MeasureT-loop
 μ-loop set₀ at count p₀ set p = p
 
 pub open-spec : {M : Type 1} → statement M
-open-spec = tie.close (tie.spec Inv-loop μ-loop (λ c. search opening) (λ c. search opening) (λ c. search opening) (λ c. search opening) (λ c. search opening) (λ c. search opening) (λ c. search opening) (λ c. search opening) (λ c. search opening) (λ c. search opening) (λ c. search opening))
+open-spec = tie.close (tie.spec
+    Inv-loop μ-loop (λ c. search opening) (λ c. search opening) (λ c. search opening) (λ c. search opening) (λ c. search opening) (λ c. search opening)
+    (λ c. search opening) (λ c. search opening) (λ c. search opening) (λ c. search opening) (λ c. search opening))

@@ -12,4 +12,6 @@ abbrev μ-loop : tie.MeasureT-loop
 μ-loop set count x lo₀ hi₀ lo hi = hi - lo
 
 pub place-spec : {M : Type 1} → statement M
-place-spec = tie.close (tie.spec Inv-loop μ-loop (λ c. search placing) (λ c. search placing) (λ c. search placing) (λ c. search placing) (λ c. search placing) (λ c. search placing) (λ c. search placing) (λ c. search placing) (λ c. search placing) (λ c. search placing) (λ c. search placing))
+place-spec = tie.close (tie.spec
+    Inv-loop μ-loop (λ c. search placing) (λ c. search placing) (λ c. search placing) (λ c. search placing) (λ c. search placing) (λ c. search placing)
+    (λ c. search placing) (λ c. search placing) (λ c. search placing) (λ c. search placing) (λ c. search placing))

@@ -1,6 +1,7 @@
 -- `stages::keep_models` meets its contract. Assumes nothing.
 use Prim.Native.Nat.{_-_}
-use Rattle.operator.specs.Operator.{rulesFrom}
+use Rattle.operator.specs.Operator.{ruleAt}
+use Rattle.sets.specs.Lists.{tabulate}
 use Rattle.stages.specs.Minimal.{satisfies}
 use Rattle.stages.proofs.Selecting.{Sifting}
 use Rattle.stages.proofs.Rules.{rules}
@@ -8,10 +9,13 @@ use Rattle.stages.proofs.keep_models.Statement.{statement}
 use Rattle.stages.proofs.keep_models.Tie as tie
 
 abbrev Inv-loop : tie.InvT-loop
-Inv-loop heads bodies count stage members kept₀ n₀ p₀ kept n p = Sifting (satisfies (rulesFrom heads bodies 0 count)) stage members kept₀ kept n p
+Inv-loop heads bodies count stage members kept₀ n₀ p₀ kept n p = Sifting (satisfies (tabulate (ruleAt heads bodies) count)) stage members kept₀ kept n p
 
 abbrev μ-loop : tie.MeasureT-loop
 μ-loop heads bodies count stage members kept₀ n₀ p₀ kept n p = members - p
 
 pub keep-models-spec : {M : Type 1} → statement M
-keep-models-spec = tie.close (tie.spec Inv-loop μ-loop (λ c. search rules) (λ c. search rules) (λ c. search rules) (λ c. search rules) (λ c. search rules) (λ c. search rules) (λ c. search rules) (λ c. search rules) (λ c. search rules) (λ c. search rules) (λ c. search rules) (λ c. search rules) (λ c. search rules) (λ c. search rules) (λ c. search rules) (λ c. search rules) (λ c. search rules))
+keep-models-spec = tie.close (tie.spec
+    Inv-loop μ-loop (λ c. search rules) (λ c. search rules) (λ c. search rules) (λ c. search rules) (λ c. search rules) (λ c. search rules) (λ c. search rules)
+    (λ c. search rules) (λ c. search rules) (λ c. search rules) (λ c. search rules) (λ c. search rules) (λ c. search rules) (λ c. search rules)
+    (λ c. search rules) (λ c. search rules) (λ c. search rules))

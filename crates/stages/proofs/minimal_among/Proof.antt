@@ -1,7 +1,12 @@
--- `stages::minimal_among` meets its contract. Assumes nothing.
-use Rattle.stages.proofs.Rules.{rules}
+-- `stages::minimal_among` meets its contract: it answers the contrary of what `smaller` answers. Assumes nothing.
+use borrow.Author.Needs.{needs}
+use mathlib.Core.Bool.{not}
+use mathlib.Core.Path.{ap}
 use Rattle.stages.proofs.minimal_among.Statement.{statement}
 use Rattle.stages.proofs.minimal_among.Tie as tie
 
+returns : tie.Need-returns
+returns c = ap not (c .smaller .ensures)
+
 pub minimal-among-spec : {M : Type 1} → statement M
-minimal-among-spec = tie.close (tie.spec (λ c. search rules) (λ c. search rules))
+minimal-among-spec = tie.close (tie.spec (λ c. search needs) returns)

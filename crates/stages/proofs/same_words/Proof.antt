@@ -1,15 +1,17 @@
--- `stages::same_words` meets its contract. Assumes nothing.
+-- `stages::same_words` meets its contract: the slices are alike below `p`, and each way to leave the loop is a law of such slices. Assumes nothing.
 use Prim.Native.Nat.{_-_}
-use Rattle.stages.proofs.Coming.{Equal}
-use Rattle.stages.proofs.Coming.{settling}
+use lib.ListN.{length}
+use Rattle.lists.proofs.Loops.{loops, Alike}
 use Rattle.stages.proofs.same_words.Statement.{statement}
 use Rattle.stages.proofs.same_words.Tie as tie
 
 abbrev Inv-loop : tie.InvT-loop
-Inv-loop a m b n p₀ p = Equal a m b n p
+Inv-loop a b p₀ p = Alike a b p
 
 abbrev μ-loop : tie.MeasureT-loop
-μ-loop a m b n p₀ p = n - p
+μ-loop a b p₀ p = length a - p
 
 pub same-words-spec : {M : Type 1} → statement M
-same-words-spec = tie.close (tie.spec Inv-loop μ-loop (λ c. search settling) (λ c. search settling) (λ c. search settling) (λ c. search settling) (λ c. search settling) (λ c. search settling) (λ c. search settling) (λ c. search settling) (λ c. search settling) (λ c. search settling) (λ c. search settling))
+same-words-spec = tie.close (tie.spec
+    Inv-loop μ-loop (λ c. search loops) (λ c. search loops) (λ c. search loops) (λ c. search loops) (λ c. search loops) (λ c. search loops) (λ c. search loops)
+    (λ c. search loops) (λ c. search loops) (λ c. search loops) (λ c. search loops))

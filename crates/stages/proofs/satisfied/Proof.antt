@@ -1,7 +1,12 @@
--- `stages::satisfied` meets its contract. Assumes nothing.
-use Rattle.stages.proofs.Rules.{rules}
+-- `stages::satisfied` meets its contract: it answers the contrary of what `violated` answers. Assumes nothing.
+use borrow.Author.Needs.{needs}
+use mathlib.Core.Bool.{not}
+use mathlib.Core.Path.{ap}
 use Rattle.stages.proofs.satisfied.Statement.{statement}
 use Rattle.stages.proofs.satisfied.Tie as tie
 
+returns : tie.Need-returns
+returns c = ap not (c .violated .ensures)
+
 pub satisfied-spec : {M : Type 1} → statement M
-satisfied-spec = tie.close (tie.spec (λ c. search rules) (λ c. search rules))
+satisfied-spec = tie.close (tie.spec (λ c. search needs) returns)

@@ -13,4 +13,6 @@ abbrev μ-loop : tie.MeasureT-loop
 μ-loop list count w q₀ q = count - q
 
 pub smaller-spec : {M : Type 1} → statement M
-smaller-spec = tie.close (tie.spec Inv-loop μ-loop (λ c. search selecting) (λ c. search selecting) (λ c. search selecting) (λ c. search selecting) (λ c. search selecting) (λ c. search selecting) (λ c. search selecting) (λ c. search selecting) (λ c. search selecting))
+smaller-spec = tie.close (tie.spec
+    Inv-loop μ-loop (λ c. search selecting) (λ c. search selecting) (λ c. search selecting) (λ c. search selecting) (λ c. search selecting)
+    (λ c. search selecting) (λ c. search selecting) (λ c. search selecting) (λ c. search selecting))

@@ -1,0 +1,9 @@
+-- `heads::infeasible` meets its contract. Assumes nothing.
+use Rattle.heads.proofs.Rules.{tests}
+use Rattle.heads.proofs.infeasible.Statement.{statement}
+use Rattle.heads.proofs.infeasible.Tie as tie
+
+pub infeasible-spec : {M : Type 1} → statement M
+infeasible-spec = tie.close (tie.spec
+    (λ c. search tests) (λ c. search tests) (λ c. search tests) (λ c. search tests) (λ c. search tests) (λ c. search tests) (λ c. search tests)
+    (λ c. search tests) (λ c. search tests))

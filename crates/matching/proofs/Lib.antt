@@ -1,0 +1,2 @@
+-- What the routines of a matching lean on.
+pub mod Rules
