@@ -1,4 +1,4 @@
--- `heads::highest` meets its contract. Assumes nothing.
+-- `heads::highest` meets its contract: the leading zeros say which place is the highest. Assumes nothing.
 use mathlib.Core.Path.{_≡_, ap, _∙_}
 use Prim.Native.Nat.{_-_, _^_}
 use native.Mathlib.Omega.{arith}

@@ -1,4 +1,4 @@
--- `rising::place` meets its contract. Assumes nothing.
+-- `rising::place` meets its contract: the place sought lies between `lo` and `hi`, which come nearer by halves. Assumes nothing.
 use Prim.Native.Nat.{_-_}
 use Rattle.rising.proofs.Inserting.{Between}
 use Rattle.rising.proofs.Inserting.{placing}
