@@ -32,9 +32,6 @@ module _ (xs : List ℕ) (count x : ℕ) where
   }
 
   module _ (lo hi : ℕ) (b : Between xs count x lo hi) (h : lo < hi) where
-    mid : ℕ
-    mid = lo + (hi - lo) / 2
-
     inside : (lo + (hi - lo) / 2 < count) × (lo + (hi - lo) / 2 < length (take count xs))
     inside = (omega (arith, b .end), omega (arith, b .end, length-take-le count xs (b .fits)))
 

@@ -22,7 +22,8 @@ use Rattle.stages.proofs.Minimal.{sift-one, sift-none, sift-short}
 -- ---- a list, one member more
 
 pub one-more : (l : List ℕ) (count p : ℕ) → count ≤ length l → p < count → drop p (take count l) ≡ getD l p 0 ∷ drop (p + 1) (take count l)
-one-more l count p h k = drop-cons (take count l) p 0 (omega (arith, length-take-le count l h)) ∙ ap₂ (λ (x : ℕ) (i : ℕ). x ∷ drop i (take count l)) (getD-take count l p 0 k) (sym (add-one p))
+one-more l count p h k = drop-cons (take count l) p 0 (omega (arith, length-take-le count l h))
+    ∙ ap₂ (λ (x : ℕ) (i : ℕ). x ∷ drop i (take count l)) (getD-take count l p 0 k) (sym (add-one p))
 
 pub no-more : (l : List ℕ) (count p : ℕ) → count ≤ length l → count ≤ p → drop p (take count l) ≡ []
 no-more l count p h k = drop-of-length-le (take count l) {i = p} (omega (arith, length-take-le count l h))
