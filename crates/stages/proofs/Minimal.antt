@@ -15,7 +15,7 @@ use Rattle.sets.proofs.Lists.{in-sift, out-sift, in-some, some-in}
 use Rattle.sets.proofs.Tests.{T-and-l, T?, T-and, T-and-r, T-true, true-T}
 use Rattle.sets.specs.Lists.{_∈_, Some, sift, anyOf, Each}
 use Rattle.sets.specs.Words.{inside, mask}
-use Rattle.stages.proofs.Bridge.{Alike, stage-to, stage-of}
+use Rattle.stages.proofs.Bridge.{Corresponds, stage-to, stage-of}
 use Rattle.rising.proofs.Literals.{lit-in, lit-out}
 use Rattle.stages.proofs.Run.{rests-at}
 use Rattle.stages.specs.Minimal.{violates, satisfies, properIn, leastIn, minimals}
@@ -56,7 +56,7 @@ proper-within w v t = T-and-l (inside v w) (not (eqb v w)) t
 abbrev pub wordRule : Rule ℕ → WordRule
 wordRule r = record { head = mask (r .head); body = mask (r .body) }
 
-pub alike-words : (R : List (Rule ℕ)) → Each (λ (r : Rule ℕ). Each (λ x. x < 64) (r .head)) R → Alike (map wordRule R) R
+pub alike-words : (R : List (Rule ℕ)) → Each (λ (r : Rule ℕ). Each (λ x. x < 64) (r .head)) R → Corresponds (map wordRule R) R
 alike-words [] f = tt
 alike-words (r ∷ R) f = (
   record {
