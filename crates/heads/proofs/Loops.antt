@@ -80,7 +80,10 @@ module _ (ws : List ℕ) (n : ℕ) where
   module _ (all k : ℕ) (s : Joining ws n all k) where
     pub join-step : k < n → Joining ws n (bitOr all (getD ws k 0)) (k + 1)
     unfolding offeredBy
-    join-step h = record { whole = or-assoc all (getD ws k 0) (offeredBy (onward (headAt ws) n (k + 1))) ∙ ap (λ (l : List ℕ). bitOr all (offeredBy l)) (sym (onward-step (headAt ws) n k h)) ∙ s .whole }
+    join-step h = record {
+      whole = or-assoc all (getD ws k 0) (offeredBy (onward (headAt ws) n (k + 1)))
+          ∙ ap (λ (l : List ℕ). bitOr all (offeredBy l)) (sym (onward-step (headAt ws) n k h)) ∙ s .whole;
+    }
 
     pub join-done : n ≤ k → all ≡ offeredBy (tabulate (headAt ws) n)
     unfolding offeredBy

@@ -74,7 +74,8 @@ module _ (ws : List ℕ) (n w k j : ℕ) where
   module _ (rest : ℕ) (s : Trying ws n w k j rest) where
     pub try-none : rest ≡ 0 → false ≡ anyOf (eqb w) (picks (onward (headAt ws) n k) j)
     unfolding flatMap
-    try-none z = sym (not-in w (picks (onward (headAt ws) n k) j) (λ m. subst (λ (l : List ℕ). w ∈ flatMap (λ t. picks (onward (headAt ws) n (k + 1)) (put t j)) l) (ap literals z ∙ literals-none) (s .to m)))
+    try-none z = sym (not-in w (picks (onward (headAt ws) n k) j) (λ m.
+        subst (λ (l : List ℕ). w ∈ flatMap (λ t. picks (onward (headAt ws) n (k + 1)) (put t j)) l) (ap literals z ∙ literals-none) (s .to m)))
 
     module _ (t v : ℕ) (l : Literal rest t) (p : v ≡ put t j) (b : Bool) (e : b ≡ anyOf (eqb w) (picks (onward (headAt ws) n (k + 1)) v)) where
       same : b ≡ anyOf (eqb w) (picks (onward (headAt ws) n (k + 1)) (put t j))
@@ -96,7 +97,8 @@ module _ (ws : List ℕ) (n w k j : ℕ) where
                 (lit-in rest′ (r .0) (g .0) (subst (λ (x : ℕ). T (bit x (r .0))) (sym d) (without-in rest u (r .0) (g .1)
                 (λ x.
                 let z : r .0 ≡ t = in-pow t (r .0) (subst (λ (y : ℕ). T (bit y (r .0))) is x) in
-                clash (anyOf (eqb w) (picks (onward (headAt ws) n (k + 1)) (put t j))) (in-is w (picks (onward (headAt ws) n (k + 1)) (put t j)) (subst (λ (y : ℕ). w ∈ picks (onward (headAt ws) n (k + 1)) (put y j)) z (r .2))) (sym same ∙ y))))) (r .2);
+                clash (anyOf (eqb w) (picks (onward (headAt ws) n (k + 1)) (put t j)))
+                (in-is w (picks (onward (headAt ws) n (k + 1)) (put t j)) (subst (λ (y : ℕ). w ∈ picks (onward (headAt ws) n (k + 1)) (put y j)) z (r .2))) (sym same ∙ y))))) (r .2);
             of = λ m.
                 let r = flatMap-in (λ t. picks (onward (headAt ws) n (k + 1)) (put t j)) w (literals rest′) m in
                 let g = lit-out rest′ (r .0) (r .1) in

@@ -79,7 +79,8 @@ module _ (L xs : List ℕ) (members : ℕ) where
         (inserted-grown xs out (insertInto w (take members xs)) r p)
 
     module _ (free : ℕ) where
-      pub scan-infeasible : (b : Bool) → members ≤ length xs → (b ≡ true → sift (between free w) L ≡ []) → b ≡ true → Grown (length xs) (addAll (sift (between free w) L) (take members xs)) xs members
+      pub scan-infeasible : (b : Bool) → members ≤ length xs → (b ≡ true → sift (between free w) L ≡ []) → b ≡ true
+          → Grown (length xs) (addAll (sift (between free w) L) (take members xs)) xs members
       scan-infeasible b h f t = grown-none (between free w) h (f t)
 
       pub scan-one : (out : List ℕ) (r : ℕ) → Rising (take members xs) → free ≡ 0 → Grown (length xs) (addAll (sift (eqb w) L) (take members xs)) out r
@@ -108,7 +109,8 @@ module _ (L xs : List ℕ) (members : ℕ) where
             (branches free t h w x (is-between free w x (s .1))))
             (λ x m. ⊎-elim
             (λ a. let s = out-sift (between (free - t) w) L x a in in-sift (between free w) L x (s .0) (between-is free w x (from-out free t h w x (is-between (free - t) w x (s .1)))))
-            (λ a. let s = out-sift (between (free - t) (bitOr w t)) L x a in in-sift (between free w) L x (s .0) (between-is free w x (from-in free t h w x (is-between (free - t) (bitOr w t) x (s .1)))))
+            (λ a. let s = out-sift (between (free - t) (bitOr w t)) L x a in
+            in-sift (between free w) L x (s .0) (between-is free w x (from-in free t h w x (is-between (free - t) (bitOr w t) x (s .1)))))
             (in-++ x out-part in-part m))
 
         module _ (ys : List ℕ) (m : ℕ) (g : Grown (length xs) (addAll (sift (between (free - t) w) L) (take members xs)) ys m) where

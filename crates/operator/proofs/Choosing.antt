@@ -99,14 +99,16 @@ module _ (f : ℕ → WordRule) (count i k j : ℕ) (ws : List ℕ) (n : ℕ) (x
     }
 
     -- its literals are followed
-    pub follow-start : (h : ℕ) → h ≡ f k .head → inside (f k .body) i ≡ true → members ≤ length xs → Rising (take members xs) → Fits w64 h → Following f count i k j ws n xs members ws xs members h
+    pub follow-start : (h : ℕ) → h ≡ f k .head → inside (f k .body) i ≡ true → members ≤ length xs → Rising (take members xs) → Fits w64 h
+        → Following f count i k j ws n xs members ws xs members h
     follow-start h e t fits rise small = record {
       small = small .fits;
       same = λ p l. refl;
       long = refl;
       grows = subst (λ (l : List ℕ). Growing (length xs) l (flatMap after (literals h)) xs members)
           (sym (ap (λ (F : List ℕ). addAll (picks (tabulate (headAt ws) n ++ F) j) (take members xs)) (fires t)
-          ∙ head-first (tabulate (headAt ws) n) (fired i (onward f count (k + 1))) (f k .head) j (take members xs) rise ∙ ap (λ (x : ℕ). addAll (flatMap after (literals x)) (take members xs)) (sym e)))
+          ∙ head-first (tabulate (headAt ws) n) (fired i (onward f count (k + 1))) (f k .head) j (take members xs) rise
+          ∙ ap (λ (x : ℕ). addAll (flatMap after (literals x)) (take members xs)) (sym e)))
           (grow-start xs (flatMap after (literals h)) members fits rise);
     }
 
@@ -145,7 +147,8 @@ module _ (f : ℕ → WordRule) (count i k j : ℕ) (ws : List ℕ) (n : ℕ) (x
           small = omega (arith, low-less rest ne, c .small);
           same = λ q o. g .same q o ∙ c .same q o;
           long = g .long ∙ c .long;
-          grows = grow-call (length xs) all (picks (tabulate (headAt vs) n ++ fired i (onward f count (k + 1))) v) (flatMap after (literals rest)) (flatMap after (literals (low rest))) ys out m r (c .grows)
+          grows = grow-call (length xs) all (picks (tabulate (headAt vs) n ++ fired i (onward f count (k + 1))) v)
+              (flatMap after (literals rest)) (flatMap after (literals (low rest))) ys out m r (c .grows)
               (ap (flatMap after) (literals-low rest ne (c .small)) ∙ ap (λ (x : List ℕ). x ++ flatMap after (literals (low rest))) (sym put-in))
               (omega (arith, c .grows .long)) (g .grown);
         }

@@ -1,13 +1,11 @@
 -- One stage from the one before. Assumes nothing.
 use Prim.Native.Nat.{ℕ, _+_, _-_, _≤_, _<_}
 use borrow.Author.Needs.{needs}
-use lib.Bits.{bitAnd}
-use lib.Dec.{eqb}
 use lib.ListN.{length, getD, take, drop, drop-of-length-le}
 use lib.Seq.{drop-cons, length-take-le, getD-take}
-use mathlib.Core.Bool.{Bool, true, _&&_}
+use mathlib.Core.Bool.{Bool, true}
 use mathlib.Core.List.{List, _∷_, _++_, flatMap}
-use mathlib.Core.Path.{_≡_, refl, sym, ap, ap₂, _∙_, subst}
+use mathlib.Core.Path.{_≡_, sym, ap, ap₂, _∙_, subst}
 use native.Mathlib.Numerals.{add-one}
 use native.Mathlib.Omega.{arith}
 use Rattle.sets.specs.Lists.{Rising, upFrom, onward, tabulate}
@@ -19,7 +17,7 @@ use Rattle.heads.specs.Heads.{headAt, picks}
 use Rattle.operator.proofs.Operator.{choices-picks, barred-none, next-is}
 use Rattle.rising.proofs.RisingSets.{nothing-rises}
 use Rattle.rising.specs.Growing.{Grown}
-use Rattle.operator.specs.Operator.{WordRule, ruleAt, choices, fired, bars, barred, next, Chosen}
+use Rattle.operator.specs.Operator.{WordRule, ruleAt, choices, fired, barred, next, Chosen}
 use Rattle.rising.specs.RisingSets.{addAll}
 
 -- ---- what one member gives
@@ -83,7 +81,8 @@ module _ (Q : List WordRule) (now : List ℕ) (members : ℕ) (xs : List ℕ) wh
           within = omega arith;
           grows = grow-call (length xs) (next Q (take members now)) (choices (getD now p 0) Q (getD now p 0)) (flatMap (λ i. choices i Q i) (drop p (take members now)))
               (flatMap (λ i. choices i Q i) (drop (p + 1) (take members now))) ys out n r (s .grows)
-              (ap (flatMap (λ i. choices i Q i)) (drop-cons (take members now) p 0 (omega arith) ∙ ap₂ (λ (x : ℕ) (m : ℕ). x ∷ drop m (take members now)) (getD-take members now p 0 h) (sym (add-one p))))
+              (ap (flatMap (λ i. choices i Q i)) (drop-cons (take members now) p 0 (omega arith)
+              ∙ ap₂ (λ (x : ℕ) (m : ℕ). x ∷ drop m (take members now)) (getD-take members now p 0 h) (sym (add-one p))))
               (omega (arith, s .grows .long)) g;
         }
 

@@ -14,7 +14,7 @@ use Rattle.rising.specs.RisingSets.{rank}
 use Rattle.rising.specs.Slices.{opened}
 
 -- the place of x in the first `count` members lies between lo and hi
-pub record Between (xs : List ℕ) (count x lo hi : ℕ) : Type 0 where
+pub record Bracket (xs : List ℕ) (count x lo hi : ℕ) : Type 0 where
   pub fits : count ≤ length xs
   pub rises : Rising (take count xs)
   pub low : lo ≤ rank x (take count xs)
@@ -22,8 +22,8 @@ pub record Between (xs : List ℕ) (count x lo hi : ℕ) : Type 0 where
   pub end : hi ≤ count
 
 module _ (xs : List ℕ) (count x : ℕ) where
-  pub between-start : (count ≤ length xs) × Rising (take count xs) → Between xs count x 0 count
-  between-start p = record {
+  pub bracket-start : (count ≤ length xs) × Rising (take count xs) → Bracket xs count x 0 count
+  bracket-start p = record {
     fits = p .0;
     rises = p .1;
     low = omega arith;
@@ -31,15 +31,12 @@ module _ (xs : List ℕ) (count x : ℕ) where
     end = omega arith;
   }
 
-  module _ (lo hi : ℕ) (b : Between xs count x lo hi) (h : lo < hi) where
-    mid : ℕ
-    mid = lo + (hi - lo) / 2
-
+  module _ (lo hi : ℕ) (b : Bracket xs count x lo hi) (h : lo < hi) where
     inside : (lo + (hi - lo) / 2 < count) × (lo + (hi - lo) / 2 < length (take count xs))
     inside = (omega (arith, b .end), omega (arith, b .end, length-take-le count xs (b .fits)))
 
-    pub between-right : getD xs (lo + (hi - lo) / 2) 0 < x → Between xs count x (lo + (hi - lo) / 2 + 1) hi
-    between-right k =
+    pub bracket-right : getD xs (lo + (hi - lo) / 2) 0 < x → Bracket xs count x (lo + (hi - lo) / 2 + 1) hi
+    bracket-right k =
         let e = getD-take count xs (lo + (hi - lo) / 2) 0 (inside .0) in
         record {
           fits = b .fits;
@@ -49,8 +46,8 @@ module _ (xs : List ℕ) (count x : ℕ) where
           end = b .end;
         }
 
-    pub between-left : x ≤ getD xs (lo + (hi - lo) / 2) 0 → Between xs count x lo (lo + (hi - lo) / 2)
-    between-left k =
+    pub bracket-left : x ≤ getD xs (lo + (hi - lo) / 2) 0 → Bracket xs count x lo (lo + (hi - lo) / 2)
+    bracket-left k =
         let e = getD-take count xs (lo + (hi - lo) / 2) 0 (inside .0) in
         record {
           fits = b .fits;
@@ -60,8 +57,8 @@ module _ (xs : List ℕ) (count x : ℕ) where
           end = omega (arith, inside .0);
         }
 
-  pub between-done : (lo hi : ℕ) → Between xs count x lo hi → hi ≤ lo → (lo ≡ rank x (take count xs)) × (lo ≤ count)
-  between-done lo hi b h = (omega (arith, b .low, b .high), omega (arith, b .low, b .high, b .end))
+  pub bracket-done : (lo hi : ℕ) → Bracket xs count x lo hi → hi ≤ lo → (lo ≡ rank x (take count xs)) × (lo ≤ count)
+  bracket-done lo hi b h = (omega (arith, b .low, b .high), omega (arith, b .low, b .high, b .end))
 
 -- the members from p to count stand one place up
 pub record Opening (xs : List ℕ) (at count : ℕ) (ys : List ℕ) (p : ℕ) : Type 0 where
@@ -91,7 +88,7 @@ module _ (xs : List ℕ) (at count : ℕ) where
   pub open-done : (ys : List ℕ) (p : ℕ) → Opening xs at count ys p → p ≤ at → ys ≡ opened xs at count
   open-done ys p o h = let e : p ≡ at = omega (arith, o .low) in o .same ∙ ap (λ (k : ℕ). opened xs k count) e
 
-pub ruleset placing = (between-start, between-right, between-left, between-done, needs)
+pub ruleset placing = (bracket-start, bracket-right, bracket-left, bracket-done, needs)
 
 pub ruleset opening = (open-start, open-step, open-done, needs)
 

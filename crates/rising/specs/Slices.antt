@@ -1,5 +1,5 @@
 -- A set in the first places of a list of fixed length. Assumes nothing.
-use Prim.Native.Nat.{ℕ, suc, _+_, min, _≤_}
+use Prim.Native.Nat.{ℕ, suc, _+_, min}
 use lib.Dec.{leb, ltb, eqb}
 use lib.ListN.{length, getD, take, drop}
 use mathlib.Core.Bool.{Bool, false, cond}
@@ -31,9 +31,3 @@ pub record Inserted (xs out m : List ℕ) (r : ℕ) : Type 0 where
 pub record Prefix (m out : List ℕ) (r : ℕ) : Type 0 where
   pub count : r ≡ length m
   pub words : take r out ≡ m
-
--- the same of a part of so many words, so that there are at most as many
-pub record Sifted (m : List ℕ) (members : ℕ) (out : List ℕ) (r : ℕ) : Type 0 where
-  pub count : r ≡ length m
-  pub words : take r out ≡ m
-  pub few : r ≤ members

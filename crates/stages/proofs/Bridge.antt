@@ -26,11 +26,11 @@ pub record Like (c : WordRule) (r : Rule ℕ) : Type 0 where
   pub heads-of : (x : ℕ) → x ∈ r .head → x ∈ literals (c .head)
   pub body : c .body ≡ mask (r .body)
 
-abbrev pub Alike : List WordRule → List (Rule ℕ) → Type 0
-Alike [] [] = Unit {0}
-Alike [] (r ∷ R) = ⊥
-Alike (c ∷ Q) [] = ⊥
-Alike (c ∷ Q) (r ∷ R) = Like c r × Alike Q R
+abbrev pub Corresponds : List WordRule → List (Rule ℕ) → Type 0
+Corresponds [] [] = Unit {0}
+Corresponds [] (r ∷ R) = ⊥
+Corresponds (c ∷ Q) [] = ⊥
+Corresponds (c ∷ Q) (r ∷ R) = Like c r × Corresponds Q R
 
 -- ---- the theory's choices, put into j
 
@@ -55,7 +55,7 @@ put-wfrom i h (r ∷ R) j =
 
 -- ---- the same words
 
-choices-to : (i : ℕ) (Q : List WordRule) (R : List (Rule ℕ)) → Alike Q R → (j v : ℕ) → v ∈ choices i Q j → v ∈ wfrom i R j
+choices-to : (i : ℕ) (Q : List WordRule) (R : List (Rule ℕ)) → Corresponds Q R → (j v : ℕ) → v ∈ choices i Q j → v ∈ wfrom i R j
 unfolding choices wfrom
 choices-to i [] [] a j v m = m
 choices-to i [] (r ∷ R) a j v m = absurd a
@@ -68,7 +68,7 @@ choices-to i (c ∷ Q) (r ∷ R) a j v m = rw (← a .0 .body) (go (inside (c .b
         in-flatMap (λ h. map (put h) (wfrom i R j)) (s .0) v (r .head) (a .0 .heads-to (s .0) (s .1)) (subst (λ (l : List ℕ). v ∈ l) (sym (put-wfrom i (s .0) R j)) (ih (put (s .0) j) v (s .2)))
     go false m ih = ih j v m
 
-choices-of : (i : ℕ) (Q : List WordRule) (R : List (Rule ℕ)) → Alike Q R → (j v : ℕ) → v ∈ wfrom i R j → v ∈ choices i Q j
+choices-of : (i : ℕ) (Q : List WordRule) (R : List (Rule ℕ)) → Corresponds Q R → (j v : ℕ) → v ∈ wfrom i R j → v ∈ choices i Q j
 unfolding choices wfrom
 choices-of i [] [] a j v m = m
 choices-of i [] (r ∷ R) a j v m = absurd a
@@ -94,7 +94,7 @@ unfolding stage next Rising
 stage-rising Q zero = (λ y m. absurd m, tt)
 stage-rising Q (suc k) = addAll-rising (flatMap (λ i. choices i Q i) (stage Q k)) [] tt
 
-module _ (Q : List WordRule) (R : List (Rule ℕ)) (a : Alike Q R) where
+module _ (Q : List WordRule) (R : List (Rule ℕ)) (a : Corresponds Q R) where
   pub stage-to : (k v : ℕ) → v ∈ stage Q k → v ∈ wstage R k
   unfolding stage wstage
   stage-to zero v m = m
@@ -126,7 +126,7 @@ below-pow (suc n) = let h = below-pow n in let e = pow-suc 2 n in omega arith
 unfoldable ruleOf : WordRule → Rule ℕ
 ruleOf c = record { head = literals (c .head); body = unmask (c .body) (c .body) }
 
-alike-rules : (Q : List WordRule) → Alike Q (map ruleOf Q)
+alike-rules : (Q : List WordRule) → Corresponds Q (map ruleOf Q)
 unfolding ruleOf
 alike-rules [] = tt
 alike-rules (c ∷ Q) = (record { heads-to = λ x m. m; heads-of = λ x m. m; body = sym (mask-unmask (c .body) (c .body) (below-pow (c .body))) }, alike-rules Q)

@@ -21,7 +21,8 @@ use Rattle.rising.specs.Slices.{size}
 
 -- ---- one stage more
 
-module _ (Q : List WordRule) (a : List ℕ) (members : ℕ) (b : List ℕ) (k : ℕ) (s : Iterating Q a members b k) (out : List ℕ) (n : ℕ) (g : Grown (length b) (next Q (take members a)) out n) where
+module _ (Q : List WordRule) (a : List ℕ) (members : ℕ) (b : List ℕ) (k : ℕ) (s : Iterating Q a members b k) (out : List ℕ) (n : ℕ)
+    (g : Grown (length b) (next Q (take members a)) out n) where
   follows : next Q (take members a) ≡ stage Q (suc k)
   unfolding stage
   follows = ap (next Q) (s .is)

@@ -11,11 +11,11 @@ use native.Mathlib.Omega.{arith}
 use Rattle.epistemic.proofs.WordMain.{WSame, WMinimal, wsat, wmodel}
 use Rattle.epistemic.proofs.Words.{mask-in, mask-out, wstage}
 use Rattle.epistemic.specs.Positive.{Rule}
-use Rattle.sets.proofs.Lists.{in-sift, out-sift}
-use Rattle.sets.proofs.Tests.{T-and-l, T?, T-and, T-and-r}
+use Rattle.sets.proofs.Lists.{in-sift, out-sift, in-some, some-in}
+use Rattle.sets.proofs.Tests.{T-and-l, T?, T-and, T-and-r, T-true, true-T}
 use Rattle.sets.specs.Lists.{_∈_, Some, sift, anyOf, Each}
 use Rattle.sets.specs.Words.{inside, mask}
-use Rattle.stages.proofs.Bridge.{Alike, stage-to, stage-of}
+use Rattle.stages.proofs.Bridge.{Corresponds, stage-to, stage-of}
 use Rattle.rising.proofs.Literals.{lit-in, lit-out}
 use Rattle.stages.proofs.Run.{rests-at}
 use Rattle.stages.specs.Minimal.{violates, satisfies, properIn, leastIn, minimals}
@@ -23,23 +23,6 @@ use Rattle.operator.specs.Operator.{WordRule, next, stage}
 use Rattle.stages.specs.Run.{finalStage, ending}
 
 -- ---- laws
-
-sift-sift : (p q : ℕ → Bool) (l : List ℕ) → sift q (sift p l) ≡ sift (λ x. p x && q x) l
-unfolding sift
-sift-sift p q [] = refl
-sift-sift p q (x ∷ l) = go (p x) (sift-sift p q l)
-  where
-    go : (b : Bool) → sift q (sift p l) ≡ sift (λ x. p x && q x) l → sift q (cond b (x ∷ sift p l) (sift p l)) ≡ cond (b && q x) (x ∷ sift (λ x. p x && q x) l) (sift (λ x. p x && q x) l)
-    go true ih = ap (λ (k : List ℕ). cond (q x) (x ∷ k) k) ih
-    go false ih = ih
-
-pub any-none : (t : ℕ → Bool) → anyOf t [] ≡ false
-unfolding anyOf
-any-none t = refl
-
-pub any-one : (t : ℕ → Bool) (x : ℕ) (l : List ℕ) → anyOf t (x ∷ l) ≡ (t x || anyOf t l)
-unfolding anyOf
-any-one t x l = refl
 
 pub sift-one : (t : ℕ → Bool) (x : ℕ) (l : List ℕ) → sift t (x ∷ l) ≡ cond (t x) (x ∷ sift t l) (sift t l)
 unfolding sift
@@ -60,28 +43,11 @@ sift-short t (x ∷ l) = go (t x) (sift-short t l)
 
 -- ---- members that pass
 
-pub any-in : (t : ℕ → Bool) (x : ℕ) (l : List ℕ) → x ∈ l → T (t x) → T (anyOf t l)
-unfolding anyOf
-any-in t x [] i h = absurd i
-any-in t x (y ∷ l) (inl e) h = go (t y) (subst (λ z. T (t z)) e h)
-  where
-    go : (b : Bool) → T b → T (_||_ b (anyOf t l))
-    go true u = tt
-    go false u = absurd u
-any-in t x (y ∷ l) (inr i) h = go (t y) (any-in t x l i h)
-  where
-    go : (b : Bool) → T (anyOf t l) → T (_||_ b (anyOf t l))
-    go true u = tt
-    go false u = u
+any-in : (t : ℕ → Bool) (x : ℕ) (l : List ℕ) → x ∈ l → T (t x) → T (anyOf t l)
+any-in t x l m h = true-T (anyOf t l) (in-some t l x m (T-true (t x) h))
 
-pub in-any : (t : ℕ → Bool) (l : List ℕ) → T (anyOf t l) → Some (λ x. T (t x)) l
-unfolding anyOf
-in-any t [] h = absurd h
-in-any t (y ∷ l) h = go (t y) refl h (in-any t l)
-  where
-    go : (b : Bool) → t y ≡ b → T (_||_ b (anyOf t l)) → (T (anyOf t l) → Some (λ x. T (t x)) l) → Some (λ x. T (t x)) (y ∷ l)
-    go true e u ih = (y, inl refl, subst T (sym e) tt)
-    go false e u ih = let s = ih u in (s .0, inr (s .1), s .2)
+in-any : (t : ℕ → Bool) (l : List ℕ) → T (anyOf t l) → Some (λ x. T (t x)) l
+in-any t l h = let s = some-in t l (T-true (anyOf t l) h) in (s .0, s .1, true-T (t (s .0)) (s .2))
 
 pub proper-within : (w v : ℕ) → T (properIn w v) → T (inside v w)
 proper-within w v t = T-and-l (inside v w) (not (eqb v w)) t
@@ -90,7 +56,7 @@ proper-within w v t = T-and-l (inside v w) (not (eqb v w)) t
 abbrev pub wordRule : Rule ℕ → WordRule
 wordRule r = record { head = mask (r .head); body = mask (r .body) }
 
-pub alike-words : (R : List (Rule ℕ)) → Each (λ (r : Rule ℕ). Each (λ x. x < 64) (r .head)) R → Alike (map wordRule R) R
+pub alike-words : (R : List (Rule ℕ)) → Each (λ (r : Rule ℕ). Each (λ x. x < 64) (r .head)) R → Corresponds (map wordRule R) R
 alike-words [] f = tt
 alike-words (r ∷ R) f = (
   record {
@@ -136,39 +102,39 @@ module _ (R : List (Rule ℕ)) (small : Each (λ (r : Rule ℕ). Each (λ x. x <
   abbrev Q : List WordRule
   Q = map wordRule R
 
+  abbrev found : List ℕ
+  found = sift (satisfies Q) (finalStage Q)
+
+  to : (k w : ℕ) → w ∈ stage Q k → w ∈ wstage R k
+  to k w i = stage-to Q R (alike-words R small) k w i
+
+  of : (k w : ℕ) → w ∈ wstage R k → w ∈ stage Q k
+  of k w i = stage-of Q R (alike-words R small) k w i
+
   pub rests : WSame R (ending (map wordRule R))
   rests w = (
-    λ i. stage-to (map wordRule R) R (alike-words R small) (suc (ending (map wordRule R))) w (subst (λ (l : List ℕ). w ∈ l) (final-rests (map wordRule R)) (stage-of (map wordRule R) R (alike-words R small) (ending (map wordRule R)) w i)),
-    λ i. stage-to (map wordRule R) R (alike-words R small) (ending (map wordRule R)) w (subst (λ (l : List ℕ). w ∈ l) (sym (final-rests (map wordRule R))) (stage-of (map wordRule R) R (alike-words R small) (suc (ending (map wordRule R))) w i)),
+    λ i. to (suc (ending Q)) w (subst (λ (l : List ℕ). w ∈ l) (final-rests Q) (of (ending Q) w i)),
+    λ i. to (ending Q) w (subst (λ (l : List ℕ). w ∈ l) (sym (final-rests Q)) (of (suc (ending Q)) w i)),
   )
 
-  found : List ℕ
-  found = sift (satisfies (map wordRule R)) (finalStage (map wordRule R))
-
-  found-in : (w : ℕ) → w ∈ wstage R (ending (map wordRule R)) → T (wmodel w R) → w ∈ sift (satisfies (map wordRule R)) (finalStage (map wordRule R))
+  found-in : (w : ℕ) → w ∈ wstage R (ending Q) → T (wmodel w R) → w ∈ found
   unfolding finalStage
-  found-in w i t = in-sift (satisfies (map wordRule R)) (stage (map wordRule R) (ending (map wordRule R))) w (stage-of (map wordRule R) R (alike-words R small) (ending (map wordRule R)) w i) (subst T (sym (satisfies-model w R)) t)
+  found-in w i t = in-sift (satisfies Q) (stage Q (ending Q)) w (of (ending Q) w i) (subst T (sym (satisfies-model w R)) t)
 
-  found-out : (w : ℕ) → w ∈ sift (satisfies (map wordRule R)) (finalStage (map wordRule R)) → (w ∈ wstage R (ending (map wordRule R))) × T (wmodel w R)
+  found-out : (w : ℕ) → w ∈ found → (w ∈ wstage R (ending Q)) × T (wmodel w R)
   unfolding finalStage
-  found-out w i = let s = out-sift (satisfies (map wordRule R)) (stage (map wordRule R) (ending (map wordRule R))) w i in
-      (stage-to (map wordRule R) R (alike-words R small) (ending (map wordRule R)) w (s .0), subst T (satisfies-model w R) (s .1))
+  found-out w i = let s = out-sift (satisfies Q) (stage Q (ending Q)) w i in (to (ending Q) w (s .0), subst T (satisfies-model w R) (s .1))
 
   pub minimal-out : (w : ℕ) → w ∈ minimals (sift (satisfies (map wordRule R)) (finalStage (map wordRule R))) → WMinimal R (ending (map wordRule R)) w
   unfolding minimals
   minimal-out w i =
-      let s = out-sift (leastIn (sift (satisfies (map wordRule R)) (finalStage (map wordRule R)))) (sift (satisfies (map wordRule R)) (finalStage (map wordRule R))) w i in
+      let s = out-sift (leastIn found) found w i in
       let f = found-out w (s .0) in
-      record {
-        member = f .0;
-        model = f .1;
-        least = λ v k t u. proper-not w v u (λ p. T-not (anyOf (properIn w) (sift (satisfies (map wordRule R)) (finalStage (map wordRule R)))) (s .1) (any-in (properIn w) v (sift (satisfies (map wordRule R)) (finalStage (map wordRule R))) (found-in v k t) p));
-      }
+      record { member = f .0; model = f .1; least = λ v k t u. proper-not w v u (λ p. T-not (anyOf (properIn w) found) (s .1) (any-in (properIn w) v found (found-in v k t) p)) }
 
   pub minimal-in : (w : ℕ) → WMinimal R (ending (map wordRule R)) w → w ∈ minimals (sift (satisfies (map wordRule R)) (finalStage (map wordRule R)))
   unfolding minimals
-  minimal-in w h = in-sift (leastIn (sift (satisfies (map wordRule R)) (finalStage (map wordRule R)))) (sift (satisfies (map wordRule R)) (finalStage (map wordRule R))) w (found-in w (h .member) (h .model))
-      (not-T (anyOf (properIn w) (sift (satisfies (map wordRule R)) (finalStage (map wordRule R)))) (λ t.
-      let s = in-any (properIn w) (sift (satisfies (map wordRule R)) (finalStage (map wordRule R))) t in
+  minimal-in w h = in-sift (leastIn found) found w (found-in w (h .member) (h .model)) (not-T (anyOf (properIn w) found) (λ t.
+      let s = in-any (properIn w) found t in
       let f = found-out (s .0) (s .1) in
       not-proper w (s .0) (s .2) (h .least (s .0) (f .0) (f .1) (proper-within w (s .0) (s .2)))))

@@ -65,7 +65,11 @@ module _ (Q : List WordRule) where
 -- ---- a run that has come to stage k
 pub reached-start : (Q : List WordRule) (room : ℕ) → 0 < room → Reached Q room 0
 unfolding stage
-reached-start Q room h = record { most = omega arith; early = λ i l. absurd (omega arith); roomy = λ i l. let e : i ≡ 0 = omega arith in subst (λ (n : ℕ). length (stage Q n) ≤ room) (sym e) (omega arith) }
+reached-start Q room h = record {
+  most = omega arith;
+  early = λ i l. absurd (omega arith);
+  roomy = λ i l. let e : i ≡ 0 = omega arith in subst (λ (n : ℕ). length (stage Q n) ≤ room) (sym e) (omega arith);
+}
 
 -- room for nothing has none for stage 0
 pub crowded-start : (Q : List WordRule) (room : ℕ) → room ≡ 0 → crowded Q room ≡ true

@@ -1,98 +1,87 @@
 -- What is taken of the last stage: laws of its loops. Assumes nothing.
 use Prim.Native.Nat.{ℕ, _+_, _≤_, _<_}
-use lib.Bits.{bitAnd}
-use lib.Dec.{eqb}
-use lib.ListN.{length, getD, take, drop, set, length-set, drop-of-length-le}
+use lib.ListN.{length-take, length, getD, take, drop, set, length-set, drop-of-length-le}
 use lib.Seq.{drop-cons, length-take-le, getD-take, take-suc-set}
-use mathlib.Core.Bool.{Bool, true, false, not, cond, _&&_, _||_}
+use mathlib.Core.Bool.{Bool, true, false, cond}
 use mathlib.Core.List.{List, [], _∷_, _++_, append-assoc, append-nil}
 use mathlib.Core.Path.{_≡_, refl, sym, ap, ap₂, _∙_, subst}
 use native.Mathlib.Numerals.{add-one}
 use native.Mathlib.Omega.{arith}
 use borrow.Author.Needs.{needs}
-use Rattle.sets.specs.Lists.{sift, anyOf}
+use Rattle.sets.specs.Lists.{sift}
 use Rattle.sets.proofs.Tests.{clash, via}
 use Rattle.sets.proofs.Lists.{lacks-start, lacks-hit, lacks-more, lacks-none}
-use Rattle.rising.specs.Slices.{Sifted}
+use Rattle.lists.proofs.Loops.{ahead, at-end}
+use Rattle.rising.specs.Slices.{Prefix}
 use Rattle.operator.specs.Operator.{WordRule, stage}
 use Rattle.stages.specs.Run.{finalStage, crowded, Iterated, Iterating}
-use Rattle.stages.specs.Minimal.{violates, satisfies, properIn, leastIn, minimals, minimalModels, Minimals}
+use Rattle.stages.specs.Minimal.{satisfies, leastIn, minimals, minimalModels, Minimals}
 use Rattle.stages.proofs.Run.{crowded-start, reached-start}
-use Rattle.stages.proofs.Minimal.{any-none, any-one, sift-one, sift-none}
+use Rattle.stages.proofs.Minimal.{sift-one, sift-none, sift-short}
 
 -- ---- a list, one member more
 
 pub one-more : (l : List ℕ) (count p : ℕ) → count ≤ length l → p < count → drop p (take count l) ≡ getD l p 0 ∷ drop (p + 1) (take count l)
-one-more l count p h k = drop-cons (take count l) p 0 (omega (arith, length-take-le count l h)) ∙ ap₂ (λ (x : ℕ) (i : ℕ). x ∷ drop i (take count l)) (getD-take count l p 0 k) (sym (add-one p))
+one-more l count p h k = drop-cons (take count l) p 0 (omega (arith, length-take-le count l h))
+    ∙ ap₂ (λ (x : ℕ) (i : ℕ). x ∷ drop i (take count l)) (getD-take count l p 0 k) (sym (add-one p))
 
 pub no-more : (l : List ℕ) (count p : ℕ) → count ≤ length l → count ≤ p → drop p (take count l) ≡ []
 no-more l count p h k = drop-of-length-le (take count l) {i = p} (omega (arith, length-take-le count l h))
 
--- ---- no member before q passes
+-- ---- the members of a list that pass a test, copied: n of those below p do
 
-pub record Looking (t : ℕ → Bool) (l : List ℕ) (count q : ℕ) : Type 0 where
-  pub inside : count ≤ length l
-  pub within : q ≤ count
-  pub same : anyOf t (drop q (take count l)) ≡ anyOf t (take count l)
-
-module _ (t : ℕ → Bool) (l : List ℕ) (count : ℕ) where
-  pub looking-start : count ≤ length l → Looking t l count 0
-  looking-start h = record { inside = h; within = omega arith; same = refl }
-
-  module _ (q : ℕ) (s : Looking t l count q) where
-    step : q < count → (b : Bool) → t (getD l q 0) ≡ b → _||_ b (anyOf t (drop (q + 1) (take count l))) ≡ anyOf t (take count l)
-    step h b e = ap (λ (x : Bool). _||_ x (anyOf t (drop (q + 1) (take count l)))) (sym e) ∙ sym (any-one t (getD l q 0) (drop (q + 1) (take count l)))
-        ∙ ap (anyOf t) (sym (one-more l count q (s .inside) h)) ∙ s .same
-
-    pub looking-hit : (b : Bool) → q < count → b ≡ t (getD l q 0) → b ≡ true → true ≡ anyOf t (take count l)
-    looking-hit b h e y = step h true (sym e ∙ y)
-
-    pub looking-miss : (b : Bool) → q < count → b ≡ t (getD l q 0) → b ≡ false → Looking t l count (q + 1)
-    looking-miss b h e y = record { inside = s .inside; within = omega arith; same = step h false (sym e ∙ y) }
-
-    pub looking-done : count ≤ q → false ≡ anyOf t (take count l)
-    looking-done h = sym (any-none t) ∙ ap (anyOf t) (sym (no-more l count q (s .inside) h)) ∙ s .same
-
--- ---- the members that pass a test
-
-pub record Sifting (t : ℕ → Bool) (l : List ℕ) (members : ℕ) (xs ys : List ℕ) (n p : ℕ) : Type 0 where
-  pub inside : members ≤ length l
-  pub room : members ≤ length ys
+pub record Sifting (t : ℕ → Bool) (l xs ys : List ℕ) (n p : ℕ) : Type 0 where
+  pub room : length l ≤ length ys
   pub long : length ys ≡ length xs
   pub low : n ≤ p
-  pub within : p ≤ members
-  pub whole : take n ys ++ sift t (drop p (take members l)) ≡ sift t (take members l)
+  pub within : p ≤ length l
+  pub whole : take n ys ++ sift t (drop p l) ≡ sift t l
 
-module _ (t : ℕ → Bool) (l : List ℕ) (members : ℕ) (xs : List ℕ) where
-  pub sifting-start : members ≤ length l → members ≤ length xs → Sifting t l members xs xs 0 0
-  sifting-start h k = record { inside = h; room = k; long = refl; low = omega arith; within = omega arith; whole = refl }
+module _ (t : ℕ → Bool) (l xs : List ℕ) where
+  pub sifting-start : length l ≤ length xs → Sifting t l xs xs 0 0
+  sifting-start h = record { room = h; long = refl; low = omega arith; within = omega arith; whole = refl }
 
-  module _ (ys : List ℕ) (n p : ℕ) (s : Sifting t l members xs ys n p) where
-    here : p < members → (b : Bool) → t (getD l p 0) ≡ b
-        → take n ys ++ cond b (getD l p 0 ∷ sift t (drop (p + 1) (take members l))) (sift t (drop (p + 1) (take members l))) ≡ sift t (take members l)
-    here h b e = ap (λ (x : Bool). take n ys ++ cond x (getD l p 0 ∷ sift t (drop (p + 1) (take members l))) (sift t (drop (p + 1) (take members l)))) (sym e)
-        ∙ ap (λ (k : List ℕ). take n ys ++ k) (sym (sift-one t (getD l p 0) (drop (p + 1) (take members l))) ∙ ap (sift t) (sym (one-more l members p (s .inside) h)))
-        ∙ s .whole
+  module _ (ys : List ℕ) (n p : ℕ) (s : Sifting t l xs ys n p) where
+    here : p < length l → take n ys ++ cond (t (getD l p 0)) (getD l p 0 ∷ sift t (drop (p + 1) l)) (sift t (drop (p + 1) l)) ≡ sift t l
+    here h = ap (λ (k : List ℕ). take n ys ++ k) (sym (sift-one t (getD l p 0) (drop (p + 1) l)) ∙ ap (sift t) (sym (ahead l p h))) ∙ s .whole
 
-    pub sifting-skip : {b : Bool} → p < members → b ≡ t (getD l p 0) → b ≡ false → Sifting t l members xs ys n (p + 1)
-    sifting-skip h e y = record { inside = s .inside; room = s .room; long = s .long; low = omega (arith, s .low); within = omega arith; whole = here h false (sym e ∙ y) }
+    pub sifting-skip : p < length l → t (getD l p 0) ≡ false → Sifting t l xs ys n (p + 1)
+    sifting-skip h e = record { room = s .room; long = s .long; low = omega (arith, s .low); within = omega arith; whole = rw e at (here h) }
 
-    pub sifting-keep : {b : Bool} → p < members → b ≡ t (getD l p 0) → b ≡ true → Sifting t l members xs (set ys n (getD l p 0)) (n + 1) (p + 1)
-    sifting-keep h e y = record {
-      inside = s .inside;
-      room = subst (λ (k : ℕ). members ≤ k) (sym (length-set ys n (getD l p 0))) (s .room);
+    pub sifting-keep : p < length l → t (getD l p 0) ≡ true → Sifting t l xs (set ys n (getD l p 0)) (n + 1) (p + 1)
+    sifting-keep h e = record {
+      room = omega (arith, length-set ys n (getD l p 0), s .room);
       long = length-set ys n (getD l p 0) ∙ s .long;
       low = omega (arith, s .low);
       within = omega arith;
-      whole = ap (λ (k : List ℕ). k ++ sift t (drop (p + 1) (take members l))) (ap (λ (i : ℕ). take i (set ys n (getD l p 0))) (add-one n) ∙ take-suc-set ys n (getD l p 0) (omega (arith, s .low, s .room)))
-          ∙ append-assoc (take n ys) (getD l p 0 ∷ []) (sift t (drop (p + 1) (take members l))) ∙ here h true (sym e ∙ y);
+      whole = ap (λ (k : List ℕ). k ++ sift t (drop (p + 1) l)) (ap (λ (i : ℕ). take i (set ys n (getD l p 0))) (add-one n) ∙ take-suc-set ys n (getD l p 0) (omega (arith, s .low, s .room)))
+          ∙ append-assoc (take n ys) (getD l p 0 ∷ []) (sift t (drop (p + 1) l)) ∙ rw e at (here h);
     }
 
-    pub sifting-done : members ≤ p → Sifted (sift t (take members l)) members ys n
+    pub sifting-done : length l ≤ p → Prefix (sift t l) ys n
     sifting-done h =
-        let w : take n ys ≡ sift t (take members l) =
-        sym (ap (λ (k : List ℕ). take n ys ++ k) (ap (sift t) (no-more l members p (s .inside) h) ∙ sift-none t) ∙ append-nil (take n ys)) ∙ s .whole in
-        record { count = sym (length-take-le n ys (omega (arith, s .low, s .room, s .within))) ∙ ap length w; words = w; few = omega (arith, s .low, s .within) }
+        let w : take n ys ≡ sift t l = sym (ap (λ (k : List ℕ). take n ys ++ k) (ap (sift t) (at-end l p h) ∙ sift-none t) ∙ append-nil (take n ys)) ∙ s .whole in
+        record { count = sym (length-take-le n ys (omega (arith, s .low, s .room, s .within))) ∙ ap length w; words = w }
+
+-- ---- what is kept of the first m words of a in as long a list as b
+
+module _ (t : ℕ → Bool) (m k : ℕ) (a kept : List ℕ) (p : Prefix (sift t (take m a)) kept k) where
+  fewer : k ≤ m
+  fewer = omega (arith, p .count, sift-short t (take m a), length-take m a)
+
+  pub kept-within : (b : List ℕ) → m ≤ length b → length kept ≡ length b → k ≤ length kept
+  kept-within b h e = omega (arith, fewer)
+
+  pub kept-room : m ≤ length a → length (take k kept) ≤ length a
+  kept-room h = omega (arith, fewer, length-take k kept)
+
+  -- the minimal ones of these
+  pub kept-minimal : (out : List ℕ) (n : ℕ) → Prefix (sift (leastIn (take k kept)) (take k kept)) out n → Prefix (minimals (sift t (take m a))) out n
+  unfolding minimals
+  kept-minimal out n q = subst (λ (l : List ℕ). Prefix (sift (leastIn l) l) out n) (p .words) q
+
+pub prefix-room : (m : ℕ) (a b : List ℕ) → m ≤ length b → length (take m a) ≤ length b
+prefix-room m a b h = omega (arith, length-take m a)
 
 -- ---- the minimal models of the stage that ends the run
 module _ (Q : List WordRule) (room : ℕ) where
@@ -113,23 +102,22 @@ module _ (Q : List WordRule) (room : ℕ) where
       go true c = too-large a b r c (s .count ∙ rw c) (s .first-length) (s .second-length)
       go false c = absurd (omega (arith, s .fits c))
 
-  pub minimals-are : (a b kept out : List ℕ) (r k n : ℕ) → Iterated Q room r a b → r ≤ room
-      → Sifted (sift (satisfies Q) (take r a)) r kept k → length kept ≡ length b
-      → Sifted (sift (leastIn (take k kept)) (take k kept)) k out n → length out ≡ length a → Minimals Q room n out kept
+  pub minimals-are : (a b out kept : List ℕ) (r n : ℕ) → Iterated Q room r a b → r ≤ room
+      → Prefix (minimals (sift (satisfies Q) (take r a))) out n → length out ≡ length a → length kept ≡ length b → Minimals Q room n out kept
   unfolding minimalModels minimals
-  minimals-are a b kept out r k n s h p l q m = go (crowded Q room) refl
+  minimals-are a b out kept r n s h q l k = go (crowded Q room) refl
     where
       go : (c : Bool) → crowded Q room ≡ c → Minimals Q room n out kept
       go true c = absurd (omega (arith, s .count ∙ ap (λ (x : Bool). cond x (room + 1) (length (finalStage Q))) c))
       go false c =
-          let f : take k kept ≡ sift (satisfies Q) (finalStage Q) = p .words ∙ ap (sift (satisfies Q)) (s .in-first c) in
-          let g : take n out ≡ minimalModels Q = q .words ∙ ap (λ (l : List ℕ). sift (leastIn l) l) f in
+          let f : minimals (sift (satisfies Q) (take r a)) ≡ minimalModels Q = ap (λ (l : List ℕ). minimals (sift (satisfies Q) l)) (s .in-first c) in
+          let few = sift-short (leastIn (sift (satisfies Q) (take r a))) (sift (satisfies Q) (take r a)) in
           record {
-            count = q .count ∙ ap (λ (l : List ℕ). length (sift (leastIn l) l)) f ∙ sym (ap (λ (x : Bool). cond x (room + 1) (length (minimalModels Q))) c);
-            words = λ e. g;
-            fits = λ e. omega (arith, q .few, p .few);
-            first-length = m ∙ s .first-length;
-            second-length = l ∙ s .second-length;
+            count = q .count ∙ ap length f ∙ sym (ap (λ (x : Bool). cond x (room + 1) (length (minimalModels Q))) c);
+            words = λ e. q .words ∙ f;
+            fits = λ e. omega (arith, q .count, few, sift-short (satisfies Q) (take r a), length-take r a);
+            first-length = l ∙ s .first-length;
+            second-length = k ∙ s .second-length;
           }
 
 -- no room for stage 0
@@ -157,13 +145,14 @@ pub ruleset selecting = (
   lacks-more,
   lacks-none,
   via,
-  looking-start,
-  looking-hit,
-  looking-miss,
-  looking-done,
   sifting-start,
   sifting-skip,
   sifting-keep,
   sifting-done,
+  length-take-le,
+  kept-within,
+  kept-room,
+  kept-minimal,
+  prefix-room,
   needs,
 )

@@ -4,10 +4,10 @@ ghost use Prim.Native.Nat.{_+_, _-_, _≤_, _<_};
 ghost use lib.ListN.{length, take};
 ghost use Rattle.sets.specs.Lists.{sift, anyOf, tabulate};
 ghost use Rattle.lists.specs.Bytes.{same};
-ghost use Rattle.rising.specs.Slices.{Sifted};
+ghost use Rattle.rising.specs.Slices.{Prefix};
 ghost use Rattle.operator.specs.Operator.{ruleAt};
 ghost use Rattle.stages.specs.Run.{Iterating, Iterated};
-ghost use Rattle.stages.specs.Minimal.{violates, satisfies, properIn, leastIn, Minimals};
+ghost use Rattle.stages.specs.Minimal.{violates, satisfies, properIn, leastIn, minimals, Minimals};
 
 // Whether two slices hold the same words.
 fn same_words(a: &[u64], b: &[u64]) -> bool
@@ -86,15 +86,14 @@ fn keep_models<'a>(
     bodies: &'a [u64],
     count: usize,
     stage: &'a [u64],
-    members: usize,
     kept: &mut [u64],
 ) -> usize
-    requires { ⌜ (count ≤ length (now heads)) × (count ≤ length (now bodies)) × (members ≤ length (now stage)) × (members ≤ length (now kept)) ⌝ }
-    ensures { λ r. ⌜ Sifted (sift (satisfies (tabulate (ruleAt (now (heads .entry)) (now (bodies .entry))) count)) (take members (now (stage .entry)))) members (now (kept .exit)) r ⌝ }
+    requires { ⌜ (count ≤ length (now heads)) × (count ≤ length (now bodies)) × (length (now stage) ≤ length (now kept)) ⌝ }
+    ensures { λ r. ⌜ Prefix (sift (satisfies (tabulate (ruleAt (now (heads .entry)) (now (bodies .entry))) count)) (now (stage .entry))) (now (kept .exit)) r ⌝ }
 {
     let mut n: usize = 0;
     let mut p: usize = 0;
-    while p < members {
+    while p < stage.len() {
         if satisfied(heads, bodies, count, stage[p]) {
             kept[n] = stage[p];
             n += 1;
@@ -113,13 +112,12 @@ fn properly(v: u64, w: u64) -> bool
     (v & w == v) & (v != w)
 }
 
-// Whether some of the first `members` words is a proper subset of `w`.
-fn smaller(list: &[u64], members: usize, w: u64) -> bool
-    requires { ⌜ members ≤ length (now list) ⌝ }
-    ensures { λ r. ⌜ r ≡ anyOf (properIn w) (take members (now (list .entry))) ⌝ }
+// Whether some word of the list is a proper subset of `w`.
+fn smaller(list: &[u64], w: u64) -> bool
+    ensures { λ r. ⌜ r ≡ anyOf (properIn w) (now (list .entry)) ⌝ }
 {
     let mut q: usize = 0;
-    while q < members {
+    while q < list.len() {
         if properly(list[q], w) {
             return true;
         }
@@ -128,23 +126,22 @@ fn smaller(list: &[u64], members: usize, w: u64) -> bool
     false
 }
 
-// Whether `w` is minimal among the first `members` words.
-fn minimal_among(list: &[u64], members: usize, w: u64) -> bool
-    requires { ⌜ members ≤ length (now list) ⌝ }
-    ensures { λ r. ⌜ r ≡ leastIn (take members (now (list .entry))) w ⌝ }
+// Whether no word of the list is a proper subset of `w`.
+fn minimal_among(list: &[u64], w: u64) -> bool
+    ensures { λ r. ⌜ r ≡ leastIn (now (list .entry)) w ⌝ }
 {
-    !smaller(list, members, w)
+    !smaller(list, w)
 }
 
-// Copies into `kept` the minimal ones of the first `members` words.
-fn keep_minimal(list: &[u64], members: usize, kept: &mut [u64]) -> usize
-    requires { ⌜ (members ≤ length (now list)) × (members ≤ length (now kept)) ⌝ }
-    ensures { λ r. ⌜ Sifted (sift (leastIn (take members (now (list .entry)))) (take members (now (list .entry)))) members (now (kept .exit)) r ⌝ }
+// Copies into `kept` the minimal words of the list.
+fn keep_minimal(list: &[u64], kept: &mut [u64]) -> usize
+    requires { ⌜ length (now list) ≤ length (now kept) ⌝ }
+    ensures { λ r. ⌜ Prefix (sift (leastIn (now (list .entry))) (now (list .entry))) (now (kept .exit)) r ⌝ }
 {
     let mut n: usize = 0;
     let mut p: usize = 0;
-    while p < members {
-        if minimal_among(list, members, list[p]) {
+    while p < list.len() {
+        if minimal_among(list, list[p]) {
             kept[n] = list[p];
             n += 1;
             p += 1;
@@ -153,6 +150,22 @@ fn keep_minimal(list: &[u64], members: usize, kept: &mut [u64]) -> usize
         }
     }
     n
+}
+
+// Leaves the minimal ones of the members that satisfy every clause at the start of `first`, in whose first places the members stand.
+fn minimal_of<'a>(
+    heads: &'a [u64],
+    bodies: &'a [u64],
+    count: usize,
+    first: &mut [u64],
+    members: usize,
+    second: &mut [u64],
+) -> usize
+    requires { ⌜ (count ≤ length (now heads)) × (count ≤ length (now bodies)) × (members ≤ length (now first)) × (members ≤ length (now second)) ⌝ }
+    ensures { λ r. ⌜ Prefix (minimals (sift (satisfies (tabulate (ruleAt (now (heads .entry)) (now (bodies .entry))) count)) (take members (now (first .entry))))) (now (first .exit)) r ⌝ }
+{
+    let k = keep_models(heads, bodies, count, &first[..members], second);
+    keep_minimal(&second[..k], first)
 }
 
 // Leaves the minimal models at the start of `first`, from stage 0, which stands in its first place.
@@ -172,8 +185,7 @@ fn minimal_from<'a>(
     if room < n {
         return n;
     }
-    let k = keep_models(heads, bodies, count, first, n, second);
-    keep_minimal(second, k, first)
+    minimal_of(heads, bodies, count, first, n, second)
 }
 
 // Forms the stages of a positive program in two working slices of one length, and leaves its minimal models, rising, at the start of the first.

@@ -1,4 +1,4 @@
--- `heads::combine` meets its contract. Assumes nothing.
+-- `heads::combine` meets its contract: all sets lie between `j` and `j` with what the heads offer. Assumes nothing.
 use Rattle.heads.proofs.Rules.{scans}
 use Rattle.heads.proofs.combine.Statement.{statement}
 use Rattle.heads.proofs.combine.Tie as tie

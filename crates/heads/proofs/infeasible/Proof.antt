@@ -1,4 +1,4 @@
--- `heads::infeasible` meets its contract. Assumes nothing.
+-- `heads::infeasible` meets its contract: each test that leaves a branch is a law: a head is missed, or some literals are more than the heads that meet them. Assumes nothing.
 use Rattle.heads.proofs.Rules.{tests}
 use Rattle.heads.proofs.infeasible.Statement.{statement}
 use Rattle.heads.proofs.infeasible.Tie as tie

@@ -1,4 +1,4 @@
--- `heads::insert_made` meets its contract. Assumes nothing.
+-- `heads::insert_made` meets its contract: whether the word is among the sets decides what is put in. Assumes nothing.
 use Rattle.heads.proofs.Rules.{scans}
 use Rattle.heads.proofs.insert_made.Statement.{statement}
 use Rattle.heads.proofs.insert_made.Tie as tie

@@ -1,4 +1,4 @@
--- `heads::less` meets its contract. Assumes nothing.
+-- `heads::less` meets its contract: what is taken away is a part of `a`. Assumes nothing.
 use Rattle.heads.proofs.Rules.{words}
 use Rattle.heads.proofs.less.Statement.{statement}
 use Rattle.heads.proofs.less.Tie as tie

@@ -1,4 +1,4 @@
--- `heads::meeting` meets its contract. Assumes nothing.
+-- `heads::meeting` meets its contract: `m` heads before `k` meet `x`, and those from `k` on make up the whole count. Assumes nothing.
 use Prim.Native.Nat.{_-_}
 use Rattle.heads.proofs.Loops.{Meeting}
 use Rattle.heads.proofs.Rules.{loops}

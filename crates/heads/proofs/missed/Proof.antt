@@ -1,4 +1,4 @@
--- `heads::missed` meets its contract. Assumes nothing.
+-- `heads::missed` meets its contract: no head before `k` misses `v`, by the laws of a loop over a layout. Assumes nothing.
 use Prim.Native.Nat.{_-_}
 use Rattle.sets.proofs.Lists.{Lacks}
 use Rattle.sets.specs.Words.{apart}

@@ -1,4 +1,4 @@
--- `heads::offered` meets its contract. Assumes nothing.
+-- `heads::offered` meets its contract: the literals before `k`, joined with those from `k` on, are all. Assumes nothing.
 use Prim.Native.Nat.{_-_}
 use Rattle.heads.proofs.Loops.{Joining}
 use Rattle.heads.proofs.Rules.{loops}

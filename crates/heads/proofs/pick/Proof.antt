@@ -1,4 +1,4 @@
--- `heads::pick` meets its contract. Assumes nothing.
+-- `heads::pick` meets its contract: the literal that is matched is tested, and the lowest is a literal of a word that has one. Assumes nothing.
 use Rattle.heads.proofs.Rules.{words}
 use Rattle.heads.proofs.pick.Statement.{statement}
 use Rattle.heads.proofs.pick.Tie as tie

@@ -1,4 +1,4 @@
--- `heads::too_many` meets its contract. Assumes nothing.
+-- `heads::too_many` meets its contract: the callee counts the heads, `count_ones` the literals. Assumes nothing.
 use mathlib.Core.Path.{ap}
 use Prim.Native.Nat.{ℕ}
 use lib.Dec.{ltb}

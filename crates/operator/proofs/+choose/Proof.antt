@@ -74,7 +74,8 @@ pub +choose-spec : {M : Type 1} → statement M
     (λ c.
     let at-head = c .before .before in
     let at-fires = at-head .before in
-    follow-start _ _ _ _ _ _ _ _ _ (search choosing) (search choosing) _ refl (via-true (at-fires .before .subset .ensures) (at-fires .if2 .left)) (search choosing) (search choosing) (at-head .shared-slice-known4 .given _))
+    follow-start _ _ _ _ _ _ _ _ _ (search choosing) (search choosing) _ refl
+    (via-true (at-fires .before .subset .ensures) (at-fires .if2 .left)) (search choosing) (search choosing) (at-head .shared-slice-known4 .given _))
     (λ c. search choosing)
     (λ c. search choosing)
     (λ c. search choosing)

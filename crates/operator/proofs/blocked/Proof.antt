@@ -1,4 +1,4 @@
--- `operator::blocked` meets its contract. Assumes nothing.
+-- `operator::blocked` meets its contract: no clause before `k` is a constraint that bars, by the laws of a loop over a layout. Assumes nothing.
 use Prim.Native.Nat.{_-_}
 use Rattle.operator.specs.Operator.{ruleAt, bars}
 use Rattle.sets.proofs.Lists.{Lacks}

@@ -1,4 +1,4 @@
--- `operator::give` meets its contract. Assumes nothing.
+-- `operator::give` meets its contract: a barred member gives nothing, and else its choices are made with no head set aside yet. Assumes nothing.
 use Rattle.operator.proofs.Stepping.{stepping}
 use Rattle.operator.proofs.give.Statement.{statement}
 use Rattle.operator.proofs.give.Tie as tie

@@ -1,4 +1,4 @@
--- `operator::step` meets its contract. Assumes nothing.
+-- `operator::step` meets its contract: the members from `p` on have still to give. Assumes nothing.
 use Prim.Native.Nat.{_-_}
 use Rattle.sets.specs.Lists.{tabulate}
 use Rattle.operator.specs.Operator.{ruleAt}

@@ -1,4 +1,4 @@
--- `rising::insert` meets its contract. Assumes nothing.
+-- `rising::insert` meets its contract: each of the three ways out, present, too many, put in, is a law on the place and on what stands there. Assumes nothing.
 use borrow.Author.Needs.{needs}
 use Rattle.rising.proofs.Inserting.{inserting}
 use Rattle.rising.proofs.insert.Statement.{statement}

@@ -1,4 +1,4 @@
--- `rising::open` meets its contract. Assumes nothing.
+-- `rising::open` meets its contract: the members from `p` on stand one place up. Assumes nothing.
 use Rattle.rising.proofs.Inserting.{Opening}
 use Rattle.rising.proofs.Inserting.{opening}
 use Rattle.rising.proofs.open.Statement.{statement}

@@ -1,12 +1,12 @@
--- `rising::place` meets its contract. Assumes nothing.
+-- `rising::place` meets its contract: the place sought lies between `lo` and `hi`, which come nearer by halves. Assumes nothing.
 use Prim.Native.Nat.{_-_}
-use Rattle.rising.proofs.Inserting.{Between}
+use Rattle.rising.proofs.Inserting.{Bracket}
 use Rattle.rising.proofs.Inserting.{placing}
 use Rattle.rising.proofs.place.Statement.{statement}
 use Rattle.rising.proofs.place.Tie as tie
 
 abbrev Inv-loop : tie.InvT-loop
-Inv-loop set count x lo₀ hi₀ lo hi = Between set count x lo hi
+Inv-loop set count x lo₀ hi₀ lo hi = Bracket set count x lo hi
 
 abbrev μ-loop : tie.MeasureT-loop
 μ-loop set count x lo₀ hi₀ lo hi = hi - lo

@@ -1,4 +1,4 @@
--- `rising::stands` meets its contract. Assumes nothing.
+-- `rising::stands` meets its contract: the two ways out are the two cases of `standsAt`. Assumes nothing.
 use borrow.Author.Needs.{needs}
 use Rattle.rising.proofs.Inserting.{inserting}
 use Rattle.rising.proofs.stands.Statement.{statement}

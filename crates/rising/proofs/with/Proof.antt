@@ -1,4 +1,4 @@
--- `rising::with` meets its contract. Assumes nothing.
+-- `rising::with` meets its contract: a shifted one is a power of two. Assumes nothing.
 use borrow.Author.Needs.{needs}
 use Rattle.rising.proofs.Inserting.{inserting}
 use Rattle.rising.proofs.with.Statement.{statement}

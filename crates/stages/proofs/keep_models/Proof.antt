@@ -1,5 +1,6 @@
--- `stages::keep_models` meets its contract. Assumes nothing.
+-- `stages::keep_models` meets its contract: what is kept, with what passes of the members still to come, is all that passes. Assumes nothing.
 use Prim.Native.Nat.{_-_}
+use lib.ListN.{length}
 use Rattle.operator.specs.Operator.{ruleAt}
 use Rattle.sets.specs.Lists.{tabulate}
 use Rattle.stages.specs.Minimal.{satisfies}
@@ -9,10 +10,10 @@ use Rattle.stages.proofs.keep_models.Statement.{statement}
 use Rattle.stages.proofs.keep_models.Tie as tie
 
 abbrev Inv-loop : tie.InvT-loop
-Inv-loop heads bodies count stage members kept₀ n₀ p₀ kept n p = Sifting (satisfies (tabulate (ruleAt heads bodies) count)) stage members kept₀ kept n p
+Inv-loop heads bodies count stage kept₀ n₀ p₀ kept n p = Sifting (satisfies (tabulate (ruleAt heads bodies) count)) stage kept₀ kept n p
 
 abbrev μ-loop : tie.MeasureT-loop
-μ-loop heads bodies count stage members kept₀ n₀ p₀ kept n p = members - p
+μ-loop heads bodies count stage kept₀ n₀ p₀ kept n p = length stage - p
 
 pub keep-models-spec : {M : Type 1} → statement M
 keep-models-spec = tie.close (tie.spec

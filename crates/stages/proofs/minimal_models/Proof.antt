@@ -1,4 +1,4 @@
--- `stages::minimal_models` meets its contract. Assumes nothing.
+-- `stages::minimal_models` meets its contract: stage 0 stands in the first place, and no place is no room for it. Assumes nothing.
 use mathlib.Core.Path.{_∙_}
 use lib.ListN.{length-set}
 use Rattle.stages.proofs.Rules.{rules}

@@ -1,18 +1,18 @@
--- `stages::smaller` meets its contract. Assumes nothing.
+-- `stages::smaller` meets its contract: no word below `q` is a proper subset, by the laws of a loop over a list. Assumes nothing.
 use Prim.Native.Nat.{_-_}
+use lib.ListN.{length}
+use Rattle.lists.proofs.Loops.{loops, Scanned}
 use Rattle.stages.specs.Minimal.{properIn}
-use Rattle.stages.proofs.Selecting.{Looking}
-use Rattle.stages.proofs.Selecting.{selecting}
 use Rattle.stages.proofs.smaller.Statement.{statement}
 use Rattle.stages.proofs.smaller.Tie as tie
 
 abbrev Inv-loop : tie.InvT-loop
-Inv-loop list count w q₀ q = Looking (properIn w) list count q
+Inv-loop list w q₀ q = Scanned list (properIn w) q
 
 abbrev μ-loop : tie.MeasureT-loop
-μ-loop list count w q₀ q = count - q
+μ-loop list w q₀ q = length list - q
 
 pub smaller-spec : {M : Type 1} → statement M
 smaller-spec = tie.close (tie.spec
-    Inv-loop μ-loop (λ c. search selecting) (λ c. search selecting) (λ c. search selecting) (λ c. search selecting) (λ c. search selecting)
-    (λ c. search selecting) (λ c. search selecting) (λ c. search selecting) (λ c. search selecting))
+    Inv-loop μ-loop (λ c. search loops) (λ c. search loops) (λ c. search loops) (λ c. search loops) (λ c. search loops) (λ c. search loops) (λ c. search loops)
+    (λ c. search loops) (λ c. search loops))

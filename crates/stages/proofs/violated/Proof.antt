@@ -1,4 +1,4 @@
--- `stages::violated` meets its contract. Assumes nothing.
+-- `stages::violated` meets its contract: no clause before `k` is violated, by the laws of a loop over a layout. Assumes nothing.
 use Prim.Native.Nat.{_-_}
 use Rattle.stages.specs.Minimal.{violates}
 use Rattle.sets.proofs.Lists.{Lacks}
