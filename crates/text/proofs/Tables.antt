@@ -10,7 +10,7 @@ use native.Mathlib.Omega.{arith}
 use lib.Dec.{eqb, ltb}
 use lib.ListN.{length, getD, take, drop, replicate, length-map, List·getD-map}
 use lib.Seq.{take-at, drop-at, take-add, drop-drop, drop-cons, getD-drop}
-use borrow.Author.Tests.{eqb-true, eq-eqb, ltb-true, lt-ltb, le-leb}
+use borrow.Author.Tests.{eqb-true, eq-eqb, ltb-true, lt-ltb, leb-true, le-leb}
 use Rattle.sets.specs.Lists.{every, anyOf, upFrom, tabulate}
 use Rattle.sets.proofs.Tests.{dec, clash, both-true, both-false}
 use Rattle.sets.proofs.Lists.{length-upFrom, map-upFrom}
@@ -26,10 +26,10 @@ use Rattle.program.specs.Valid.{zeroFrom, isPlace, namesValid, isClause, clause
 use Rattle.program.proofs.Places.{place-long}
 use Rattle.program.proofs.Validity.{valid-names, valid-clauses, clause-below}
 use Rattle.text.specs.Tables.{placed, tableOf}
+use Rattle.text.specs.Refusals.{isValue, isRow}
 use Rattle.text.specs.Render.{valuesOf}
-use Rattle.text.proofs.Values.{isSmall, isRow}
+use Rattle.text.proofs.Values.{row-long, row-small}
 use Rattle.text.proofs.Names.{name-short, placed-long, index-name, trim}
-use Rattle.text.proofs.Books.{row-long, row-small}
 
 -- names and rows as a book has them
 pub record Good (ns vss : List (List ℕ)) : Type 0 where
@@ -110,13 +110,13 @@ word-at k vs i z =
     word-in (map (bitsOf k) vs) i (small-bits k vs)
     ∙ ap (getD (map (bitsOf k) vs) i) (sym z) ∙ List·getD-map (bitsOf k) vs i 0
 
-small-at : (vs : List ℕ) (i : ℕ) → every isSmall vs ≡ true → getD vs i 0 < 64
+small-at : (vs : List ℕ) (i : ℕ) → every isValue vs ≡ true → getD vs i 0 ≤ 63
 unfolding every
 small-at [] i h = omega arith
-small-at (v ∷ vs) zero h = ltb-true v 64 (both-true (ltb v 64) (every isSmall vs) h .0)
-small-at (v ∷ vs) (suc i) h = small-at vs i (both-true (ltb v 64) (every isSmall vs) h .1)
+small-at (v ∷ vs) zero h = leb-true v 63 (both-true (isValue v) (every isValue vs) h .0)
+small-at (v ∷ vs) (suc i) h = small-at vs i (both-true (isValue v) (every isValue vs) h .1)
 
-value-is : (vs : List ℕ) (i : ℕ) → every isSmall vs ≡ true → clauseValue (clauseOfValues vs) i ≡ getD vs i 0
+value-is : (vs : List ℕ) (i : ℕ) → every isValue vs ≡ true → clauseValue (clauseOfValues vs) i ≡ getD vs i 0
 unfolding clauseOfValues clauseValue bitsOf
 value-is vs i h = omega (arith, word-at 1 vs i refl, word-at 4 vs i refl, word-at 16 vs i refl, small-at vs i h)
 
@@ -323,10 +323,10 @@ names-apart Y (suc k) i b v h =
     let s = cond-true (anyOf (same (place Y i)) (upFrom (place Y) k (suc i))) (distinct (upFrom (place Y) k (suc i))) h in
     rw (none-same Y (place Y i) k (suc i) (place-long Y i (omega arith)) (w .0) (omega arith) (w .1) (s .0), names-apart Y k (suc i) (omega arith) (w .1) (s .1))
 
-values-small : (c : Clause) (k i : ℕ) → every isSmall (upFrom (clauseValue c) k i) ≡ true
+values-small : (c : Clause) (k i : ℕ) → every isValue (upFrom (clauseValue c) k i) ≡ true
 unfolding upFrom every clauseValue
 values-small c zero i = refl
-values-small c (suc k) i = rw (lt-ltb (clauseValue c i) 64 (omega (arith, bits-lt (c .head) i, bits-lt (c .body) i, bits-lt (c .naf) i)), values-small c k (suc i))
+values-small c (suc k) i = rw (le-leb (clauseValue c i) 63 (omega (arith, bits-lt (c .head) i, bits-lt (c .body) i, bits-lt (c .naf) i)), values-small c k (suc i))
 
 row-form : (n : ℕ) (c : Clause) → isRow n (clauseValues n c) ≡ true
 unfolding isRow clauseValues tabulate
@@ -426,18 +426,18 @@ word-lt k (v ∷ vs) =
     let p : 2 ^ (2 * suc (length vs)) ≡ 4 * 2 ^ (2 * length vs) = ap (λ (n : ℕ). 2 ^ n) q ∙ omega (arith, pow-suc 2 (suc (2 * length vs)), pow-suc 2 (2 * length vs)) in
     omega (arith, word-lt k vs)
 
-parts-of : (v : ℕ) → v < 64 → v / 1 % 4 + 4 * (v / 4 % 4) + 16 * (v / 16 % 4) ≡ v
+parts-of : (v : ℕ) → v ≤ 63 → v / 1 % 4 + 4 * (v / 4 % 4) + 16 * (v / 16 % 4) ≡ v
 parts-of v l = omega arith
 
-zero-of : (v : ℕ) → v < 64 → v / 1 % 4 ≡ 0 → v / 4 % 4 ≡ 0 → v / 16 % 4 ≡ 0 → 0 ≡ v
+zero-of : (v : ℕ) → v ≤ 63 → v / 1 % 4 ≡ 0 → v / 4 % 4 ≡ 0 → v / 16 % 4 ≡ 0 → 0 ≡ v
 zero-of v l a b c = rw (a, b, c) at (parts-of v l)
 
-words-zero : (vs : List ℕ) → every isSmall vs ≡ true → wordBy 1 vs ≡ 0 → wordBy 4 vs ≡ 0 → wordBy 16 vs ≡ 0 → every (eqb 0) vs ≡ true
+words-zero : (vs : List ℕ) → every isValue vs ≡ true → wordBy 1 vs ≡ 0 → wordBy 4 vs ≡ 0 → wordBy 16 vs ≡ 0 → every (eqb 0) vs ≡ true
 unfolding every wordBy wordOf bitsOf
 words-zero [] h a b c = refl
 words-zero (v ∷ vs) h a b c =
-    let w = both-true (ltb v 64) (every isSmall vs) h in
-    let l = ltb-true v 64 (w .0) in
+    let w = both-true (isValue v) (every isValue vs) h in
+    let l = leb-true v 63 (w .0) in
     let a1 : v / 1 % 4 ≡ 0 = omega (arith, a) in
     let b1 : v / 4 % 4 ≡ 0 = omega (arith, b) in
     let c1 : v / 16 % 4 ≡ 0 = omega (arith, c) in
