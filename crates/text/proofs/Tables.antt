@@ -418,7 +418,7 @@ pads-apart (x ∷ ns) h d =
     let t = cond-true (anyOf (same x) ns) (distinct ns) d in
     rw (none-again x ns (w .0) (w .1) (t .0), pads-apart ns (w .1) (t .1))
 
-word-lt : (k : ℕ) (vs : List ℕ) → wordBy k vs < 2 ^ (2 * length vs)
+pub word-lt : (k : ℕ) (vs : List ℕ) → wordBy k vs < 2 ^ (2 * length vs)
 unfolding wordBy wordOf bitsOf
 word-lt k [] = omega arith
 word-lt k (v ∷ vs) =
