@@ -13,9 +13,8 @@ use Rattle.sets.proofs.Tests.{dec, clash}
 use Rattle.lists.specs.Bytes.{distinct, pieces, ended, index, endOf, EndsAt, Counts}
 use Rattle.lists.proofs.Pieces.{line-step, length-ended, length-pieces}
 use Rattle.program.specs.Names.{isName}
-use Rattle.program.specs.Refusals.{lowest}
 use Rattle.text.specs.Lines.{HasLine, firstLine, names, clauseLines}
-use Rattle.text.specs.Refusals.{wrongSize, unended, hasForeign, tooManyLines, namesBroken, namesEqual, openingRefusal}
+use Rattle.text.specs.Refusals.{wrongSize, unended, tooManyLines, namesBroken, namesEqual}
 
 -- a text that is not empty, and whose last byte is 10
 has-last : (x : ℕ) (xs : List ℕ) → getD (x ∷ xs) (length xs) 0 ≡ 10 → index 10 (x ∷ xs) < suc (length xs)
@@ -71,30 +70,8 @@ pub many-lines-is : (b : List ℕ) (n : ℕ) → Counts 10 b n → ltb 65 n ≡ 
 unfolding tooManyLines
 many-lines-is b n c = ap (ltb 65) (c .is ∙ sym (length-ended 10 b))
 
--- ---- the lowest of the first six that applies
+-- ---- the size and the last byte
 module _ (b : List ℕ) where
-  pub is1 : wrongSize b ≡ true → 1 ≡ openingRefusal b
-  unfolding openingRefusal lowest
-  is1 t = rw t
-
-  pub is2 : wrongSize b ≡ false → unended b ≡ true → 2 ≡ openingRefusal b
-  unfolding openingRefusal lowest
-  is2 a t = rw (a, t)
-
-  pub is3 : wrongSize b ≡ false → unended b ≡ false → hasForeign b ≡ true → 3 ≡ openingRefusal b
-  unfolding openingRefusal lowest
-  is3 a c t = rw (a, c, t)
-
-  pub is4 : wrongSize b ≡ false → unended b ≡ false → hasForeign b ≡ false → tooManyLines b ≡ true → 4 ≡ openingRefusal b
-  unfolding openingRefusal lowest
-  is4 a c d t = rw (a, c, d, t)
-
-  -- the first four do not apply: the names line decides
-  pub is5-6 : (r : ℕ) → wrongSize b ≡ false → unended b ≡ false → hasForeign b ≡ false → tooManyLines b ≡ false
-      → r ≡ lowest ((5, namesBroken b) ∷ (6, namesEqual b) ∷ []) → r ≡ openingRefusal b
-  unfolding openingRefusal lowest
-  is5-6 r a c d f e = e ∙ rw (a, c, d, f)
-
   pub size-some : wrongSize b ≡ false → 1 ≤ length b
   unfolding wrongSize
   size-some s = ⊎-elim (λ q. clash (eqb (length b) 0 || ltb 4096 (length b)) (rw q) s) (λ q. let n = eqb-false (length b) 0 q in omega arith) (dec (eqb (length b) 0))

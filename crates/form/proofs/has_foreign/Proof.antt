@@ -3,7 +3,7 @@ use Prim.Native.Nat.{_-_}
 use lib.ListN.{length}
 use Rattle.lists.proofs.Loops.{Scanned}
 use Rattle.text.specs.Refusals.{isForeign, hasForeign}
-use Rattle.form.proofs.ItemRules.{rules}
+use Rattle.form.proofs.Rules.{rules}
 use Rattle.form.proofs.has_foreign.Statement.{statement}
 use Rattle.form.proofs.has_foreign.Tie as tie
 

@@ -1,6 +1,6 @@
 -- `form::is_foreign` meets its contract. Assumes nothing.
 use Rattle.text.specs.Refusals.{isForeign}
-use Rattle.form.proofs.ItemRules.{rules}
+use Rattle.form.proofs.Rules.{rules}
 use Rattle.form.proofs.is_foreign.Statement.{statement}
 use Rattle.form.proofs.is_foreign.Tie as tie
 

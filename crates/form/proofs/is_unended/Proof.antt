@@ -2,7 +2,7 @@
 use native.Mathlib.Omega.{arith}
 use Rattle.text.specs.Refusals.{unended}
 use Rattle.text.proofs.Tests.{size-some}
-use Rattle.form.proofs.TestRules.{rules}
+use Rattle.form.proofs.Rules.{rules}
 use Rattle.form.proofs.is_unended.Statement.{statement}
 use Rattle.form.proofs.is_unended.Tie as tie
 

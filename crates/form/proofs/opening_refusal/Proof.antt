@@ -1,0 +1,7 @@
+-- `form::opening_refusal` meets its contract. Assumes nothing.
+use Rattle.form.proofs.Rules.{rules}
+use Rattle.form.proofs.opening_refusal.Statement.{statement}
+use Rattle.form.proofs.opening_refusal.Tie as tie
+
+pub opening-refusal-spec : {M : Type 1} → statement M
+opening-refusal-spec = tie.close (tie.spec (λ c. search rules) (λ c. search rules) (λ c. search rules) (λ c. search rules) (λ c. search rules) (λ c. search rules) (λ c. search rules) (λ c. search rules) (λ c. search rules) (λ c. search rules))
