@@ -1,7 +1,7 @@
 -- `reader::byte_at` meets its contract. Assumes nothing.
 use mathlib.Core.Path.{sym}
 use lib.ListN.{List·getD-eq-default}
-use Rattle.reader.proofs.TableRules.{rules}
+use Rattle.reader.proofs.Rules.{rules}
 use Rattle.reader.proofs.byte_at.Statement.{statement}
 use Rattle.reader.proofs.byte_at.Tie as tie
 

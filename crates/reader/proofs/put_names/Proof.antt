@@ -2,7 +2,7 @@
 use Prim.Native.Nat.{_+_, _-_}
 use lib.ListN.{length}
 use Rattle.reader.proofs.Names.{Naming}
-use Rattle.reader.proofs.TableRules.{rules}
+use Rattle.reader.proofs.Rules.{rules}
 use Rattle.reader.proofs.put_names.Statement.{statement}
 use Rattle.reader.proofs.put_names.Tie as tie
 

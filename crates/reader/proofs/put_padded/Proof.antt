@@ -1,7 +1,7 @@
 -- `reader::put_padded` meets its contract. Assumes nothing.
 use Prim.Native.Nat.{_-_}
 use Rattle.reader.proofs.Names.{Padding}
-use Rattle.reader.proofs.TableRules.{rules}
+use Rattle.reader.proofs.Rules.{rules}
 use Rattle.reader.proofs.put_padded.Statement.{statement}
 use Rattle.reader.proofs.put_padded.Tie as tie
 

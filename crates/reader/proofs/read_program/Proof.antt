@@ -1,7 +1,7 @@
 -- `reader::read_program` meets its contract. Assumes nothing.
-use Rattle.reader.proofs.TableRules.{rules}
+use Rattle.reader.proofs.Rules.{rules}
 use Rattle.reader.proofs.read_program.Statement.{statement}
 use Rattle.reader.proofs.read_program.Tie as tie
 
 pub read-program-spec : {M : Type 1} → statement M
-read-program-spec = tie.close (tie.spec (λ c. search rules) (λ c. search rules) (λ c. search rules) (λ c. search rules) (λ c. search rules))
+read-program-spec = tie.close (tie.spec (λ c. search rules) (λ c. search rules) (λ c. search rules) (λ c. search rules) (λ c. search rules) (λ c. search rules) (λ c. search rules) (λ c. search rules) (λ c. search rules) (λ c. search rules) (λ c. search rules))
