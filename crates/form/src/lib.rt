@@ -10,10 +10,10 @@ use text::NEWLINE;
 use text::SPACE;
 
 // What the items on a line are: how many, whether each is a name, and whether no two are equal.
-pub struct NamesLine {
-    pub count: usize,
-    pub named: bool,
-    pub apart: bool,
+struct NamesLine {
+    count: usize,
+    named: bool,
+    apart: bool,
 }
 
 // ---- the names line

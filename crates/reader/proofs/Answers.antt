@@ -4,10 +4,9 @@ use mathlib.Core.Bool.{Bool, true, false}
 use mathlib.Core.List.{List, [], _∷_}
 use Prim.Native.Nat.{ℕ, _+_, _≤_}
 use native.Mathlib.Omega.{arith}
-use lib.ListN.{length, take, replicate}
+use lib.ListN.{length, take}
 use Rattle.sets.specs.Lists.{every}
-use Rattle.lists.specs.Bytes.{pieces, padded, over, EndsAt, Counts}
-use Rattle.lists.proofs.Padding.{over-padded}
+use Rattle.lists.specs.Bytes.{pieces, padded, EndsAt, Counts}
 use Rattle.program.specs.Names.{isName}
 use Rattle.program.specs.Refusals.{lowest}
 use Rattle.program.specs.declared.Program.{Program}
@@ -41,8 +40,8 @@ module _ (b : List ℕ) (z : openingRefusal b ≡ 0) (e : ℕ) (q : EndsAt b 10 
   pub names-counted : (n : ℕ) → Counts 32 (take e b) n → n + 1 ≡ length (names b)
   names-counted n c = names-count b e (opened b z .line) q n c
 
-  pub names-put : (out : List ℕ) → out ≡ over (placed (pieces 32 (take e b))) (replicate 96 0) → out ≡ padded 96 (placed (names b))
-  names-put out f = f ∙ over-padded 96 _ ∙ ap (λ (l : List (List ℕ)). padded 96 (placed l)) (sym are)
+  pub names-put : (out : List ℕ) → out ≡ padded 96 (placed (pieces 32 (take e b))) → out ≡ padded 96 (placed (names b))
+  names-put out f = f ∙ ap (λ (l : List (List ℕ)). padded 96 (placed l)) (sym are)
 
 -- ---- the answers
 module _ (b : List ℕ) (r : Read) where

@@ -1,18 +1,12 @@
 -- What `search` is handed where the names are put, and where the reader answers. Assumes nothing.
 use borrow.Author.Needs.{needs}
 use Rattle.program.proofs.Places.{up-to}
-use Rattle.reader.proofs.Names.{pad-start, pad-more, pad-room, pad-done, naming-start, naming-short, naming-from, naming-small, naming-room, naming-more, naming-done}
+use Rattle.reader.proofs.Names.{naming-start, naming-from, naming-room, naming-more, naming-done}
 use Rattle.reader.proofs.Answers.{none, each-named, few-named, names-counted, names-put, read-early, breaks-or-not, read-seven, read-eight, read-table, table-is}
 
 pub ruleset rules = (
-  pad-start,
-  pad-more,
-  pad-room,
-  pad-done,
   naming-start,
-  naming-short,
   naming-from,
-  naming-small,
   naming-room,
   naming-more,
   naming-done,

@@ -2,9 +2,9 @@
 ghost use mathlib.Core.Path.{_≡_};
 ghost use mathlib.Core.Bool.{true, false};
 ghost use Prim.Native.Nat.{_≤_};
-ghost use lib.ListN.{length, getD};
+ghost use lib.ListN.{length, replicate};
 ghost use Rattle.sets.specs.Lists.{every};
-ghost use Rattle.lists.specs.Bytes.{pieces, padded, over};
+ghost use Rattle.lists.specs.Bytes.{pieces, padded};
 ghost use Rattle.program.specs.Names.{isName};
 ghost use Rattle.text.specs.Lines.{names};
 ghost use Rattle.text.specs.Tables.{placed};
@@ -19,38 +19,16 @@ use text::Read;
 use text::SPACE;
 
 // ---- the names of a text
-// The byte of `s` at `j`, zero behind its end.
-fn byte_at(s: &[u8], j: usize) -> u8
-    ensures { λ r. ⌜ r ≡ getD (now (s .entry)) j 0 ⌝ }
-{
-    if j < s.len() {
-        return s[j];
-    }
-    0
-}
-
-// A name in a place of eight bytes, zeros behind it.
-fn put_padded(out: &mut [u8], s: &[u8])
-    requires { ⌜ (length (now s) ≤ 8) × (8 ≤ length (now out)) ⌝ }
-    ensures { λ r. ⌜ now (out .exit) ≡ over (padded 8 (now (s .entry))) (now (out .entry)) ⌝ }
-{
-    let mut j: usize = 0;
-    while j < 8 {
-        out[j] = byte_at(s, j);
-        j += 1;
-    }
-}
-
-// The names on a line, each in its place.
+// The names on a line, each at the front of its place of eight bytes; `out` is all zero before.
 fn put_names(out: &mut [u8], line: &[u8])
-    requires { ⌜ (every isName (pieces 32 (now line)) ≡ true) × (length (pieces 32 (now line)) ≤ 12) × (96 ≤ length (now out)) ⌝ }
-    ensures { λ r. ⌜ now (out .exit) ≡ over (placed (pieces 32 (now (line .entry)))) (now (out .entry)) ⌝ }
+    requires { ⌜ (every isName (pieces 32 (now line)) ≡ true) × (length (pieces 32 (now line)) ≤ 12) × (now out ≡ replicate 96 0) ⌝ }
+    ensures { λ r. ⌜ now (out .exit) ≡ padded 96 (placed (pieces 32 (now (line .entry)))) ⌝ }
 {
     let mut a: usize = 0;
     let mut at: usize = 0;
     while at <= line.len() {
         let e = lists::end_of(line, at, SPACE);
-        put_padded(&mut out[a..], &line[at..e]);
+        lists::put_bytes(&mut out[a..], &line[at..e]);
         a += 8;
         at = e + 1;
     }

@@ -23,7 +23,6 @@ any-more p t l ls = or-assoc t
     or-assoc true = refl
     or-assoc false = refl
 
-
 module _ (xs : List ℕ) (from n : ℕ) where
   -- what the lines from a place on say
   abbrev pub behind : ℕ → List ClauseLine
@@ -42,7 +41,7 @@ module _ (xs : List ℕ) (from n : ℕ) where
   gather-start h =
       let f : length (behind from) ≤ 64 = omega (arith, length-map (ended 10 (drop from xs)) (lineRead n)) in
       let put : (sel : ClauseLine → ℕ) → Put (replicate 64 0) (map sel (behind from)) 0 (replicate 64 0) (map sel (behind from)) =
-          λ sel. put-start (replicate 64 0) (map sel (behind from)) (omega (arith, length-map (behind from) sel, length-replicate {A = ℕ} 64 0)) in
+      λ sel. put-start (replicate 64 0) (map sel (behind from)) (omega (arith, length-map (behind from) sel, length-replicate {A = ℕ} 64 0)) in
       record { breaks = refl; blanks = refl; count = omega arith; few = f; head = put (λ l. l .head); body = put (λ l. l .body); naf = put (λ l. l .naf) }
 
   module _ (at e : ℕ) (q : EndsAt xs 10 at e) where
@@ -59,8 +58,8 @@ module _ (xs : List ℕ) (from n : ℕ) where
       gather-more r w h a b =
           let st : behind at ≡ w ∷ behind (e + 1) = step h ∙ ap (λ (l : ClauseLine). l ∷ behind (e + 1)) (sym (b ∙ ap (weighed n) a)) in
           let put : (sel : ClauseLine → ℕ) (out : List ℕ) → Put (replicate 64 0) (map sel (behind from)) i out (map sel (behind at))
-              → Put (replicate 64 0) (map sel (behind from)) (i + 1) (set out i (sel w)) (map sel (behind (e + 1))) =
-              λ sel out p. put-byte _ _ i out (sel w) _ (put-as _ _ i out _ _ p (ap (map sel) st)) in
+          → Put (replicate 64 0) (map sel (behind from)) (i + 1) (set out i (sel w)) (map sel (behind (e + 1))) =
+          λ sel out p. put-byte _ _ i out (sel w) _ (put-as _ _ i out _ _ p (ap (map sel) st)) in
           record {
             breaks = any-more (λ l. not (l .holds)) broken w (behind (e + 1)) ∙ rw (← st) (s .breaks);
             blanks = any-more (λ l. l .zero) zeros w (behind (e + 1)) ∙ rw (← st) (s .blanks);
@@ -77,7 +76,7 @@ module _ (xs : List ℕ) (from n : ℕ) where
       gather-done h =
           let st : behind at ≡ [] = ap (map (lineRead n)) (line-done 10 xs at (rw (q .is) at h)) in
           let put : (sel : ClauseLine → ℕ) (out : List ℕ) → Put (replicate 64 0) (map sel (behind from)) i out (map sel (behind at)) → out ≡ padded 64 (map sel (behind from)) =
-              λ sel out p. put-done _ _ i out (put-as _ _ i out _ _ p (ap (map sel) st)) .whole ∙ over-padded 64 (map sel (behind from)) in
+          λ sel out p. put-done _ _ i out (put-as _ _ i out _ _ p (ap (map sel) st)) .whole ∙ over-padded 64 (map sel (behind from)) in
           let a : broken ≡ anyOf (λ l. not (l .holds)) (behind from) = sym (or-false broken) ∙ (rw st at (s .breaks)) in
           let z : zeros ≡ anyOf (λ l. l .zero) (behind from) = sym (or-false zeros) ∙ (rw st at (s .blanks)) in
           let c : i ≡ length (behind from) = omega (arith, s .count, ap length st) in

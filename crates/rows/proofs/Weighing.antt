@@ -73,7 +73,7 @@ module _ (values : List ℕ) (n : ℕ) (h : Bool) where
       let m : length (take n values) ≡ n = length-take-le n values (omega arith) in
       let u : suc (i - 1) ≡ i = omega arith in
       let st : drop (i - 1) (take n values) ≡ v ∷ drop i (take n values) =
-          drop-cons (take n values) (i - 1) 0 (omega arith) ∙ rw (u, getD-take n values (i - 1) 0 (omega arith), ← g) in
+      drop-cons (take n values) (i - 1) 0 (omega arith) ∙ rw (u, getD-take n values (i - 1) 0 (omega arith), ← g) in
       weighing (i - 1) _ _ _ _ _ f (omega arith) (ap (with-value v) (s .is) ∙ said-more h v _ ∙ ap (said h) (sym st))
 
 pub weigh-done : (r : Row) (n i : ℕ) (holds zero : Bool) (head body naf : ℕ) → Weighing (r .values) n (eqb (r .count) n) i holds zero head body naf → i ≤ 0

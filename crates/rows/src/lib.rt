@@ -18,12 +18,12 @@ pub struct Row {
 }
 
 // What a clause line says: whether it has a value for each name, whether those are all zero, and the words of its clause.
-pub struct ClauseLine {
-    pub holds: bool,
-    pub zero: bool,
-    pub head: u32,
-    pub body: u32,
-    pub naf: u32,
+struct ClauseLine {
+    holds: bool,
+    zero: bool,
+    head: u32,
+    body: u32,
+    naf: u32,
 }
 
 // What all clause lines say: whether some line breaks the form, whether some line has only zeros, and the columns of words.
@@ -76,7 +76,7 @@ pub fn row_of(line: &[u8]) -> Row
 }
 
 // What a row says for `n` names: its tests and its three words in one pass, the last name first.
-pub fn weigh(row: Row, n: usize) -> ClauseLine
+fn weigh(row: Row, n: usize) -> ClauseLine
     requires { ⌜ n ≤ 12 ⌝ }
     ensures { λ r. ⌜ r ≡ weighed n row ⌝ }
 {

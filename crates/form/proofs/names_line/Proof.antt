@@ -1,4 +1,4 @@
--- `form::names_line` meets its contract. Assumes nothing.
+-- `form::names_line` keeps `Naming`: the count and the two tests so far, together with those of the items from `at` on, are those of the whole line. Assumes nothing.
 use Prim.Native.Nat.{_+_, _-_}
 use lib.ListN.{length}
 use Rattle.form.proofs.Items.{Naming}
@@ -13,4 +13,7 @@ abbrev μ-loop : tie.MeasureT-loop
 μ-loop line count₀ named₀ apart₀ at₀ count named apart at = length line + 1 - at
 
 pub names-line-spec : {M : Type 1} → statement M
-names-line-spec = tie.close (tie.spec Inv-loop μ-loop (λ c. search rules) (λ c. search rules) (λ c. search rules) (λ c. search rules) (λ c. search rules) (λ c. search rules) (λ c. search rules) (λ c. search rules) (λ c. search rules) (λ c. search rules) (λ c. search rules) (λ c. search rules) (λ c. search rules) (λ c. search rules) (λ c. search rules))
+names-line-spec =
+    tie.close (tie.spec Inv-loop μ-loop (λ c. search rules) (λ c. search rules) (λ c. search rules) (λ c. search rules) (λ c. search rules)
+    (λ c. search rules) (λ c. search rules) (λ c. search rules) (λ c. search rules) (λ c. search rules) (λ c. search rules) (λ c. search rules)
+    (λ c. search rules) (λ c. search rules) (λ c. search rules))

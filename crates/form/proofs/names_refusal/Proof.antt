@@ -1,4 +1,4 @@
--- `form::names_refusal` meets its contract. Assumes nothing.
+-- `form::names_refusal` has a law for each way out, `five`, `six` and `neither`: the items of the first line are the names. Assumes nothing.
 use Rattle.form.proofs.Rules.{rules}
 use Rattle.form.proofs.names_refusal.Statement.{statement}
 use Rattle.form.proofs.names_refusal.Tie as tie

@@ -1,4 +1,4 @@
--- `form::stands_again` meets its contract. Assumes nothing.
+-- `form::stands_again` keeps `Missed`: none of the items between `from` and `at` is the item. Assumes nothing.
 use Prim.Native.Nat.{_+_, _-_}
 use lib.ListN.{length}
 use Rattle.lists.specs.Bytes.{same}
@@ -14,4 +14,6 @@ abbrev μ-loop : tie.MeasureT-loop
 μ-loop line from item at₀ at = length line + 1 - at
 
 pub stands-again-spec : {M : Type 1} → statement M
-stands-again-spec = tie.close (tie.spec Inv-loop μ-loop (λ c. search rules) (λ c. search rules) (λ c. search rules) (λ c. search rules) (λ c. search rules) (λ c. search rules) (λ c. search rules) (λ c. search rules) (λ c. search rules) (λ c. search rules) (λ c. search rules))
+stands-again-spec =
+    tie.close (tie.spec Inv-loop μ-loop (λ c. search rules) (λ c. search rules) (λ c. search rules) (λ c. search rules) (λ c. search rules)
+    (λ c. search rules) (λ c. search rules) (λ c. search rules) (λ c. search rules) (λ c. search rules) (λ c. search rules))

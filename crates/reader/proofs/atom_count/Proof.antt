@@ -1,4 +1,4 @@
--- `reader::atom_count` meets its contract. Assumes nothing.
+-- `reader::atom_count` counts the spaces of the first line, one less than its items, which are the names. Assumes nothing.
 use native.Mathlib.Omega.{arith}
 use lib.ListN.{length-take}
 use Rattle.reader.proofs.Rules.{rules}

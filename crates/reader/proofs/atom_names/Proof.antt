@@ -1,4 +1,4 @@
--- `reader::atom_names` meets its contract. Assumes nothing.
+-- `reader::atom_names` puts the items of the first line, which are the names, into a table of zeros. Assumes nothing.
 use Rattle.reader.proofs.Rules.{rules}
 use Rattle.reader.proofs.atom_names.Statement.{statement}
 use Rattle.reader.proofs.atom_names.Tie as tie

@@ -1,4 +1,4 @@
--- `reader::refused` meets its contract. Assumes nothing.
+-- `reader::refused` is the all-zero table and the number. Assumes nothing.
 use Rattle.text.specs.Tables.{zeroTable}
 use Rattle.reader.proofs.Rules.{rules}
 use Rattle.reader.proofs.refused.Statement.{statement}

@@ -1,4 +1,4 @@
--- `reader::table_of` meets its contract. Assumes nothing.
+-- `reader::table_of` takes its columns from the clause lines, which say what the rows of a text say where no line breaks the form (`table-is`). Assumes nothing.
 use Rattle.reader.proofs.Rules.{rules}
 use Rattle.reader.proofs.table_of.Statement.{statement}
 use Rattle.reader.proofs.table_of.Tie as tie

@@ -1,4 +1,4 @@
--- `rows::row_of` meets its contract. Assumes nothing.
+-- `rows::row_of` keeps `Rowed`: the numbers of the items below `at` stand in the row, and with those of the items that are left they are the line's. Assumes nothing.
 use Prim.Native.Nat.{_+_, _-_}
 use lib.ListN.{length}
 use Rattle.rows.proofs.Rows.{Rowed}
@@ -13,4 +13,7 @@ abbrev μ-loop : tie.MeasureT-loop
 μ-loop line values₀ count₀ at₀ values count at = length line + 1 - at
 
 pub row-of-spec : {M : Type 1} → statement M
-row-of-spec = tie.close (tie.spec Inv-loop μ-loop (λ c. search rules) (λ c. search rules) (λ c. search rules) (λ c. search rules) (λ c. search rules) (λ c. search rules) (λ c. search rules) (λ c. search rules) (λ c. search rules) (λ c. search rules) (λ c. search rules) (λ c. search rules) (λ c. search rules))
+row-of-spec =
+    tie.close (tie.spec Inv-loop μ-loop (λ c. search rules) (λ c. search rules) (λ c. search rules) (λ c. search rules) (λ c. search rules)
+    (λ c. search rules) (λ c. search rules) (λ c. search rules) (λ c. search rules) (λ c. search rules) (λ c. search rules) (λ c. search rules)
+    (λ c. search rules))

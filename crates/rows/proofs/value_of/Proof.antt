@@ -1,4 +1,4 @@
--- `rows::value_of` meets its contract. Assumes nothing.
+-- `rows::value_of` hands on what `read_number` gives for 65535: a number up to that bound, which fits, or 65536 for none. Assumes nothing.
 use mathlib.Core.Path.{sym, _∙_}
 use native.Mathlib.Omega.{arith}
 use Rattle.text.specs.Lines.{valueOf}
