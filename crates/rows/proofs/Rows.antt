@@ -6,9 +6,26 @@ use native.Mathlib.Omega.{arith}
 use lib.ListN.{length, take, set, replicate, length-append, length-set}
 use Rattle.lists.specs.Bytes.{left, EndsAt}
 use Rattle.lists.proofs.Pieces.{part, left-start, left-step, left-done}
+use Rattle.decimal.specs.declared.Parsed.{Parsed}
+use Rattle.decimal.specs.declared.Parsed.the-variants.{Number, Nothing}
+use Rattle.decimal.specs.Decimal.{parsedOf}
+use Rattle.decimal.proofs.Laws.{parsed-number, parsed-nothing}
 use Rattle.text.specs.Lines.{valueOf, row}
 use Rattle.rows.specs.declared.Row.{Row}
 use Rattle.rows.specs.Rows.{first, rowOf}
+
+-- ---- the number of an item, from what was parsed
+pub value-small : (bound : ℕ) (p : Parsed) (s : List ℕ) (v : ℕ) → p ≡ parsedOf bound s → p ≡ Number v → v ≤ bound
+value-small bound p s v e h = parsed-number bound s v (sym h ∙ e) .1
+
+module _ (p : Parsed) (s : List ℕ) (e : p ≡ parsedOf 65535 s) where
+  pub value-is : (v : ℕ) → p ≡ Number v → v ≡ valueOf s
+  unfolding valueOf
+  value-is v h = parsed-number 65535 s v (sym h ∙ e) .0
+
+  pub value-none : p ≡ Nothing → 65536 ≡ valueOf s
+  unfolding valueOf
+  value-none h = parsed-nothing 65535 s (sym h ∙ e)
 
 -- ---- the first n of a row
 first-more : (n : ℕ) (ds : List ℕ) (v : ℕ) → set (first n ds) (length ds) v ≡ first n (ds ++ v ∷ [])
