@@ -8,7 +8,7 @@ use lib.ListN.{length, take, drop, replicate, length-append, length-take, length
 use lib.Seq.{take-at, drop-at, drop-drop}
 use Rattle.sets.specs.Lists.{every}
 use Rattle.sets.proofs.Tests.{both-true}
-use Rattle.lists.specs.Bytes.{pieces, left, padded, over, EndsAt, Wrote}
+use Rattle.lists.specs.Bytes.{pieces, left, padded, EndsAt, Wrote}
 use Rattle.lists.proofs.Pieces.{part, left-start, left-step, left-done}
 use Rattle.lists.proofs.Writing.{part-back}
 use Rattle.lists.proofs.Padding.{padded-long, over-padded}

@@ -8,7 +8,7 @@ use lib.ListN.{length, drop, set, replicate, length-map, length-replicate}
 use Rattle.sets.specs.Lists.{anyOf}
 use Rattle.lists.specs.Bytes.{ended, EndsAt, padded}
 use Rattle.lists.proofs.Pieces.{part, line-step, line-done}
-use Rattle.lists.proofs.Writing.{Put, put-start, put-byte, put-done, put-as, put-room}
+use Rattle.lists.proofs.Writing.{Put, put-start, put-byte, put-done, put-as}
 use Rattle.lists.proofs.Padding.{over-padded}
 use Rattle.rows.specs.declared.Row.{Row}
 use Rattle.rows.specs.declared.ClauseLine.{ClauseLine}

@@ -18,7 +18,6 @@ use Rattle.text.specs.Refusals.{isValue, isRow, clauseBroken, onlyZeros, openin
 use Rattle.text.proofs.Values.{row-long}
 use Rattle.text.proofs.Tests.{both-lines, clause-lines-are}
 use Rattle.text.proofs.Fits.{opened}
-use Rattle.rows.specs.declared.ClauseLine.{ClauseLine}
 use Rattle.rows.specs.declared.ClauseLines.{ClauseLines}
 use Rattle.rows.specs.Rows.{first, rowOf, weighed, lineRead, gathered, clausesOf}
 use Rattle.rows.proofs.Rows.{first-take, first-all}

@@ -11,7 +11,6 @@ use Rattle.decimal.specs.declared.Parsed.the-variants.{Number, Nothing}
 use Rattle.decimal.specs.Decimal.{parsedOf}
 use Rattle.decimal.proofs.Laws.{parsed-number, parsed-nothing}
 use Rattle.text.specs.Lines.{valueOf, row}
-use Rattle.rows.specs.declared.Row.{Row}
 use Rattle.rows.specs.Rows.{first, rowOf}
 
 -- ---- the number of an item, from what was parsed

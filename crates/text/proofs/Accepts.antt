@@ -1,18 +1,18 @@
 -- The text of good names and rows is accepted, and an accepted text has such. Assumes nothing.
-use mathlib.Core.Path.{_≡_, refl, sym, ap, _∙_}
+use mathlib.Core.Path.{_≡_, refl, ap, _∙_}
 use mathlib.Core.Bool.{Bool, true, false, not, _||_, or-true}
-use mathlib.Core.Logic.{⊎-elim}
 use mathlib.Core.List.{List, [], _∷_, _++_, map, tail}
 use Prim.Native.Nat.{ℕ, _+_, _-_, _*_, _≤_, _<_}
+use native.Mathlib.Nat.{mul-suc}
 use native.Mathlib.Omega.{arith}
-use lib.Dec.{eqb, ltb}
+use lib.Dec.{eqb, leb}
 use lib.ListN.{length, getD, length-append, length-map}
 use lib.Seq.{getD-append-add}
-use borrow.Author.Tests.{eqb-true, eqb-false, eq-eqb, ne-eqb, leb-true, le-leb, le-ltb, not-true}
+use borrow.Author.Tests.{eq-eqb, ne-eqb, leb-true, le-leb, le-ltb, not-true}
 use Rattle.sets.specs.Lists.{every, anyOf}
-use Rattle.sets.proofs.Tests.{dec, clash, both-true, both-false}
+use Rattle.sets.proofs.Tests.{both-true}
 use Rattle.sets.proofs.Lists.{every-append, every-mono}
-use Rattle.lists.specs.Bytes.{same, pieces, ended, join, close, led}
+use Rattle.lists.specs.Bytes.{ended, join, close, led}
 use Rattle.lists.proofs.Padding.{every-join}
 use Rattle.decimal.specs.Decimal.{decimal}
 use Rattle.decimal.proofs.Laws.{decimal-every}
@@ -21,6 +21,7 @@ use Rattle.program.specs.Refusals.{lowest}
 use Rattle.text.specs.Lines.{names, clauseLines, row}
 use Rattle.text.specs.Render.{bookText}
 use Rattle.text.specs.Refusals.{wrongSize, unended, isForeign, hasForeign, tooManyLines, namesBroken, namesEqual, isValue, isRow, clauseBroken, onlyZeros, refusal}
+use Rattle.text.proofs.Lists.{every-all, every-map}
 use Rattle.text.proofs.Values.{plainLine, value-short, row-long, row-small}
 use Rattle.text.proofs.Names.{name-parts, name-short}
 use Rattle.text.proofs.Fits.{opened, clear}
@@ -28,33 +29,27 @@ use Rattle.text.proofs.Books.{text-of, lines-are, names-again, rows-aga
 use Rattle.text.proofs.Tables.{Good}
 
 -- ---- 1: the size
-led-names : (ns : List (List ℕ)) → every isName ns ≡ true → length (led 32 ns) ≤ 9 * length ns
+-- pieces of at most k bytes each, a byte between them
+led-short : (k : ℕ) (ps : List (List ℕ)) → every (λ p. leb (length p) k) ps ≡ true → length (led 32 ps) ≤ length ps + k * length ps
 unfolding every led
-led-names [] h = omega arith
-led-names (x ∷ ns) h =
-    let a = both-true (isName x) (every isName ns) h in
-    omega (arith, length-append x (led 32 ns), name-short x (a .0), led-names ns (a .1))
+led-short k [] h = omega arith
+led-short k (p ∷ ps) h =
+    let a = both-true (leb (length p) k) (every (λ p. leb (length p) k) ps) h in
+    omega (arith, length-append p (led 32 ps), leb-true (length p) k (a .0), led-short k ps (a .1), mul-suc k (length ps))
+
+join-short : (k : ℕ) (ps : List (List ℕ)) → every (λ p. leb (length p) k) ps ≡ true → length (join 32 ps) ≤ length ps + k * length ps
+unfolding join led
+join-short k [] h = omega arith
+join-short k (p ∷ ps) h = omega (arith, led-short k (p ∷ ps) h)
 
 join-names : (ns : List (List ℕ)) → every isName ns ≡ true → length (join 32 ns) ≤ 9 * length ns
-unfolding every join
-join-names [] h = omega arith
-join-names (x ∷ ns) h =
-    let a = both-true (isName x) (every isName ns) h in
-    omega (arith, length-append x (led 32 ns), name-short x (a .0), led-names ns (a .1))
-
-led-values : (vs : List ℕ) → every isValue vs ≡ true → length (led 32 (map decimal vs)) ≤ 3 * length vs
-unfolding every led
-led-values [] h = omega arith
-led-values (v ∷ vs) h =
-    let a = both-true (isValue v) (every isValue vs) h in
-    omega (arith, length-append (decimal v) (led 32 (map decimal vs)), value-short v (leb-true v 63 (a .0)), led-values vs (a .1))
+join-names ns h = omega (arith, join-short 8 ns (every-mono isName (λ p. leb (length p) 8) (λ x t. le-leb (length x) 8 (name-short x t)) ns h))
 
 line-short : (vs : List ℕ) → every isValue vs ≡ true → length (plainLine vs) ≤ 3 * length vs
-unfolding every plainLine join
-line-short [] h = omega arith
-line-short (v ∷ vs) h =
-    let a = both-true (isValue v) (every isValue vs) h in
-    omega (arith, length-append (decimal v) (led 32 (map decimal vs)), value-short v (leb-true v 63 (a .0)), led-values vs (a .1))
+unfolding plainLine
+line-short vs h =
+    let e = every-map decimal isValue (λ p. leb (length p) 2) (λ v t. le-leb (length (decimal v)) 2 (value-short v (leb-true v 63 t))) vs h in
+    omega (arith, join-short 2 (map decimal vs) e, length-map vs decimal)
 
 lines-short : (n : ℕ) (vss : List (List ℕ)) → n ≤ 12 → every (isRow n) vss ≡ true → length (close 10 (map plainLine vss)) ≤ 37 * length vss
 unfolding every close
@@ -119,9 +114,7 @@ none-foreign [] h = refl
 none-foreign (x ∷ xs) h = let a = both-true (not (isForeign x)) (every own xs) h in rw (not-true (isForeign x) (a .0), none-foreign xs (a .1))
 
 decimals-own : (vs : List ℕ) → every (every own) (map decimal vs) ≡ true
-unfolding every
-decimals-own [] = refl
-decimals-own (v ∷ vs) = rw (decimal-every own digit-own v, decimals-own vs)
+decimals-own = every-all decimal (every own) (decimal-every own digit-own)
 
 own-space : own 32 ≡ true
 unfolding own isForeign

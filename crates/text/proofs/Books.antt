@@ -4,11 +4,9 @@ use mathlib.Core.Bool.{true, false}
 use mathlib.Core.List.{List, [], _∷_, _++_, map, flatMap, tail, append-assoc}
 use Prim.Native.Nat.{ℕ, suc, _+_, _-_, _≤_}
 use native.Mathlib.Omega.{arith}
-use lib.Dec.{eqb}
-use lib.ListN.{length, getD, length-map}
-use borrow.Author.Tests.{eqb-true, eq-eqb, not-false}
+use lib.ListN.{length, getD}
+use borrow.Author.Tests.{eqb-true, not-false}
 use Rattle.sets.specs.Lists.{every}
-use Rattle.sets.proofs.Tests.{both-true}
 use Rattle.sets.proofs.Lists.{every-mono}
 use Rattle.lists.specs.Bytes.{pieces, ended, join, close}
 use Rattle.lists.proofs.Pieces.{join-pieces, pieces-join, close-ended, ended-close}
@@ -18,6 +16,7 @@ use Rattle.program.specs.Names.{isName}
 use Rattle.text.specs.Lines.{firstLine, lineOf, namesLine, valuesLine, names, clauseLines, valueOf, row}
 use Rattle.text.specs.Render.{bookText}
 use Rattle.text.specs.Refusals.{wrongSize, unended, isRow, refusal}
+use Rattle.text.proofs.Lists.{every-of-map, every-all, map-back}
 use Rattle.text.proofs.Values.{row-long, row-small, plainLine, items-are, line-back, values-back, decimals-isnt}
 use Rattle.text.proofs.Names.{name-isnt}
 use Rattle.text.proofs.Tests.{size-some}
@@ -39,9 +38,7 @@ text-of ns vss =
 
 -- ---- an accepted text is the text of its names and rows
 lines-back : (n : ℕ) (ls : List (List ℕ)) → every (isRow n) (map row ls) ≡ true → map plainLine (map row ls) ≡ ls
-unfolding every
-lines-back n [] h = refl
-lines-back n (l ∷ ls) h = let a = both-true (isRow n (row l)) (every (isRow n) (map row ls)) h in rw (line-back n l (a .0), lines-back n ls (a .1))
+lines-back n ls h = map-back row (λ l. isRow n (row l)) plainLine (line-back n) ls (sym (every-of-map row (isRow n) ls) ∙ h)
 
 -- a text that is not empty and ends in 10 is its lines
 lines-whole : (b : List ℕ) → wrongSize b ≡ false → unended b ≡ false → close 10 (ended 10 b) ≡ b
@@ -81,16 +78,11 @@ unfolding row
 row-back n vs l h = ap (map valueOf) (row-items n vs l h) ∙ values-back vs (row-small n vs h)
 
 rows-back : (n : ℕ) (rows : List (List ℕ)) → 1 ≤ n → every (isRow n) rows ≡ true → map row (map plainLine rows) ≡ rows
-unfolding every
-rows-back n [] l h = refl
-rows-back n (r ∷ rows) l h =
-    let a = both-true (isRow n r) (every (isRow n) rows) h in
-    rw (row-back n r l (a .0), rows-back n rows l (a .1))
+rows-back n rows l = map-back plainLine (isRow n) row (λ vs. row-back n vs l) rows
 
 plain-isnt : (rows : List (List ℕ)) → every (every (isnt 10)) (map plainLine rows) ≡ true
-unfolding every plainLine
-plain-isnt [] = refl
-plain-isnt (r ∷ rows) = rw (every-join (isnt 10) 32 refl (map decimal r) (decimals-isnt 10 (omega arith) r), plain-isnt rows)
+unfolding plainLine
+plain-isnt = every-all plainLine (every (isnt 10)) (λ r. every-join (isnt 10) 32 refl (map decimal r) (decimals-isnt 10 (omega arith) r))
 
 -- the lines of the text
 pub lines-are : (ns rows : List (List ℕ)) → every isName ns ≡ true → ended 10 (bookText ns rows) ≡ join 32 ns ∷ map plainLine rows

@@ -1,20 +1,20 @@
 -- What the tests have shown of a text that no refusal meets, and the reader's answer. Assumes nothing.
-use mathlib.Core.Path.{_≡_, refl, sym, ap, _∙_}
+use mathlib.Core.Path.{_≡_, refl}
 use mathlib.Core.Bool.{Bool, true, false, cond, _&&_}
-use mathlib.Core.List.{List, [], _∷_, _++_, map, tail}
+use mathlib.Core.List.{List, [], _∷_, _++_, map}
 use Prim.Native.Nat.{ℕ, suc, _+_, _≤_}
 use native.Mathlib.Omega.{arith}
 use lib.Dec.{eqb, leb}
-use lib.ListN.{length, take, drop}
-use borrow.Author.Tests.{eq-eqb, ne-eqb, not-false, leb-true, ltb-false}
+use lib.ListN.{length}
+use borrow.Author.Tests.{not-false, leb-true, ltb-false}
 use Rattle.sets.specs.Lists.{every, anyOf}
 use Rattle.sets.proofs.Tests.{both-true}
-use Rattle.lists.specs.Bytes.{distinct, pieces, ended, EndsAt}
+use Rattle.lists.specs.Bytes.{distinct, ended}
 use Rattle.program.specs.Names.{isName}
 use Rattle.program.specs.Refusals.{lowest}
 use Rattle.text.specs.Lines.{HasLine, names, clauseLines, row}
 use Rattle.text.specs.Refusals.{wrongSize, unended, hasForeign, tooManyLines, namesBroken, namesEqual, isRow, clauseBroken, onlyZeros, opening, openingRefusal, refusal}
-use Rattle.text.proofs.Tests.{plain-line, both-lines, names-are}
+use Rattle.text.proofs.Tests.{plain-line}
 
 cond-zero : (t : Bool) (n r : ℕ) → cond t (suc n) r ≡ 0 → (t ≡ false) × (r ≡ 0)
 cond-zero true n r h = absurd (omega arith)

@@ -1,5 +1,5 @@
 -- The reader's tests on a text that has a line, and the lowest refusal. Assumes nothing.
-use mathlib.Core.Path.{_≡_, refl, sym, ap, ap₂, _∙_}
+use mathlib.Core.Path.{_≡_, refl, sym, ap, _∙_}
 use mathlib.Core.Bool.{Bool, true, false, cond, not, _&&_, _||_}
 use mathlib.Core.Logic.{⊎-elim}
 use mathlib.Core.List.{List, [], _∷_, tail}
@@ -8,7 +8,7 @@ use native.Mathlib.Omega.{arith}
 use lib.Dec.{eqb, leb, ltb}
 use lib.ListN.{length, getD, take, drop}
 use borrow.Author.Tests.{eq-eqb, eqb-true, eqb-false, le-leb, not-false}
-use Rattle.sets.specs.Lists.{every, anyOf}
+use Rattle.sets.specs.Lists.{every}
 use Rattle.sets.proofs.Tests.{dec, clash}
 use Rattle.lists.specs.Bytes.{distinct, pieces, ended, index, endOf, EndsAt, Counts}
 use Rattle.lists.proofs.Pieces.{line-step, length-ended, length-pieces}

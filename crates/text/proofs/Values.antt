@@ -1,7 +1,7 @@
 -- The value that an item is the decimal text of, and the lines of values. Assumes nothing.
-use mathlib.Core.Path.{_≡_, refl, ap, _∙_}
+use mathlib.Core.Path.{_≡_, refl, sym, ap, _∙_}
 use mathlib.Core.Bool.{true, not}
-use mathlib.Core.List.{List, [], _∷_, map}
+use mathlib.Core.List.{List, _∷_, map}
 use Prim.Native.Nat.{ℕ, _+_, _≤_, _<_}
 use native.Mathlib.Omega.{arith}
 use lib.Dec.{eqb}
@@ -16,6 +16,7 @@ use Rattle.decimal.specs.Decimal.{decimal}
 use Rattle.decimal.proofs.Laws.{decimal-short, decimal-every, number-hit, number-back}
 use Rattle.text.specs.Lines.{valueOf, row}
 use Rattle.text.specs.Refusals.{isValue, isRow}
+use Rattle.text.proofs.Lists.{every-of-map, every-all, map-back}
 
 -- an item is the text of its value, and of no other
 pub value-hit : (i : List ℕ) (v : ℕ) → v ≤ 63 → decimal v ≡ i → valueOf i ≡ v
@@ -44,9 +45,7 @@ module _ (c : ℕ) (low : c < 48) where
   decimal-isnt = decimal-every (isnt c) (λ d h. ap not (ne-eqb (48 + d) c (λ e. omega arith)))
 
   pub decimals-isnt : (vs : List ℕ) → every (every (isnt c)) (map decimal vs) ≡ true
-  unfolding every
-  decimals-isnt [] = refl
-  decimals-isnt (v ∷ vs) = rw (decimal-isnt v, decimals-isnt vs)
+  decimals-isnt = every-all decimal (every (isnt c)) decimal-isnt
 
 -- the values of a line, without the byte that ends it
 unfoldable pub plainLine : List ℕ → List ℕ
@@ -58,21 +57,13 @@ unfolding plainLine
 items-are v vs = pieces-join 32 (decimal v) (map decimal vs) (all-free 32 (map decimal (v ∷ vs)) (decimals-isnt 32 (omega arith) (v ∷ vs)))
 
 -- ---- items to values and back
-items-back : (ls : List (List ℕ)) → every isValue (map valueOf ls) ≡ true → map decimal (map valueOf ls) ≡ ls
-unfolding every
-items-back [] h = refl
-items-back (l ∷ ls) h =
-    let a = both-true (isValue (valueOf l)) (every isValue (map valueOf ls)) h in
-    rw (value-back l (leb-true (valueOf l) 63 (a .0)), items-back ls (a .1))
-
 -- a clause line is the line of its values
 pub line-back : (n : ℕ) (l : List ℕ) → isRow n (row l) ≡ true → plainLine (row l) ≡ l
 unfolding plainLine row
-line-back n l h = ap (join 32) (items-back (pieces 32 l) (row-small n (row l) h)) ∙ join-pieces 32 l
+line-back n l h =
+    let is = pieces 32 l in
+    let e : every (λ i. isValue (valueOf i)) is ≡ true = sym (every-of-map valueOf isValue is) ∙ row-small n (row l) h in
+    ap (join 32) (map-back valueOf (λ i. isValue (valueOf i)) decimal (λ i t. value-back i (leb-true (valueOf i) 63 t)) is e) ∙ join-pieces 32 l
 
 pub values-back : (vs : List ℕ) → every isValue vs ≡ true → map valueOf (map decimal vs) ≡ vs
-unfolding every
-values-back [] h = refl
-values-back (v ∷ vs) h =
-    let a = both-true (isValue v) (every isValue vs) h in
-    rw (value-hit (decimal v) v (leb-true v 63 (a .0)) refl, values-back vs (a .1))
+values-back = map-back decimal isValue valueOf (λ v t. value-hit (decimal v) v (leb-true v 63 t) refl)
