@@ -1,6 +1,6 @@
 -- Loops over the items of the names line, and what they decide. Assumes nothing.
 use mathlib.Core.Path.{_≡_, refl, sym, ap, _∙_}
-use mathlib.Core.Bool.{Bool, true, false, cond, not, _&&_, and-true}
+use mathlib.Core.Bool.{Bool, true, false, cond, not, _&&_, and-true, and-assoc}
 use mathlib.Core.List.{List, _∷_}
 use Prim.Native.Nat.{ℕ, _+_, _≤_, _<_}
 use native.Mathlib.Omega.{arith}
@@ -62,14 +62,10 @@ module _ (xs : List ℕ) where
       record {
         near = omega (arith, k .near, q .from);
         many = omega (arith, k .many, ap length st);
-        names = and-on named n _ ∙ (rw (st, ← f) at (k .names));
+        names = and-assoc named n _ ∙ (rw (st, ← f) at (k .names));
         differ = but-on apart s _ ∙ (rw (st, ← g) at (k .differ));
       }
     where
-      and-on : (a b c : Bool) → (a && b) && c ≡ a && (b && c)
-      and-on true b c = refl
-      and-on false b c = refl
-
       but-on : (a b c : Bool) → (a && not b) && c ≡ a && cond b false c
       but-on true true c = refl
       but-on true false c = refl
