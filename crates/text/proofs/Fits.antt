@@ -1,4 +1,4 @@
--- What the tests have shown of a text that no refusal meets, and the reader's answer. Assumes nothing.
+-- What the first six tests have shown of a text, and what all eight have, where none applies. Assumes nothing.
 use mathlib.Core.Path.{_≡_, refl}
 use mathlib.Core.Bool.{Bool, true, false, cond, _&&_}
 use mathlib.Core.List.{List, [], _∷_, _++_, map}

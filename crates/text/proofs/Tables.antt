@@ -75,7 +75,7 @@ unfolding namesOf tableOf tabulate
 names-of-table ns cs h = names-are-named (padded 96 (placed ns)) (length ns) 0 ∙ ap (map named) (places-of ns h) ∙ trims ns h
 
 -- ---- the values of a clause that is made of values
-pub bits-suc : (w i : ℕ) → valueIn w (suc i) ≡ valueIn (w / 4) i
+bits-suc : (w i : ℕ) → valueIn w (suc i) ≡ valueIn (w / 4) i
 unfolding valueIn
 bits-suc w i =
     let q : 2 * suc i ≡ suc (suc (2 * i)) = omega arith in

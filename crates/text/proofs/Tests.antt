@@ -1,4 +1,4 @@
--- The reader's tests on a text that has a line, and the lowest refusal. Assumes nothing.
+-- The first line of a text and those behind it, and the tests of its size, its last byte, its lines and its names. Assumes nothing.
 use mathlib.Core.Path.{_≡_, refl, sym, ap, _∙_}
 use mathlib.Core.Bool.{Bool, true, false, cond, not, _&&_, _||_}
 use mathlib.Core.Logic.{⊎-elim}
@@ -46,10 +46,6 @@ module _ (b : List ℕ) (e : ℕ) (h : HasLine b) (q : EndsAt b 10 0 e) where
   pub clause-lines-are : clauseLines b ≡ ended 10 (drop (e + 1) b)
   unfolding clauseLines
   clause-lines-are = ap (λ (l : List (List ℕ)). tail l) both-lines
-
-  pub behind : e + 1 ≤ length b
-  unfolding HasLine
-  behind = omega (arith, q .is)
 
   pub names-count : (n : ℕ) → Counts 32 (take e b) n → n + 1 ≡ length (names b)
   names-count n c = omega (arith, c .is, length-pieces 32 (take e b), ap length names-are)

@@ -19,11 +19,11 @@ use Rattle.text.specs.Refusals.{isValue, isRow}
 use Rattle.text.proofs.Lists.{every-of-map, every-all, map-back}
 
 -- an item is the text of its value, and of no other
-pub value-hit : (i : List ℕ) (v : ℕ) → v ≤ 63 → decimal v ≡ i → valueOf i ≡ v
+value-hit : (i : List ℕ) (v : ℕ) → v ≤ 63 → decimal v ≡ i → valueOf i ≡ v
 unfolding valueOf
 value-hit i v h e = number-hit 65535 i v (omega arith) e
 
-pub value-back : (i : List ℕ) → valueOf i ≤ 63 → decimal (valueOf i) ≡ i
+value-back : (i : List ℕ) → valueOf i ≤ 63 → decimal (valueOf i) ≡ i
 unfolding valueOf
 value-back i h = number-back 65535 i (omega arith)
 
