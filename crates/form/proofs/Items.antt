@@ -1,102 +1,128 @@
--- Loops over the items of a line and the lines of a text. Assumes nothing.
+-- Loops over the items of the names line, and what they decide. Assumes nothing.
 use mathlib.Core.Path.{_≡_, refl, sym, ap, _∙_}
-use mathlib.Core.Bool.{Bool, true, false, cond, _&&_, _||_}
-use mathlib.Core.List.{List}
+use mathlib.Core.Bool.{Bool, true, false, cond, not, _&&_, and-true, and-assoc}
+use mathlib.Core.List.{List, _∷_}
 use Prim.Native.Nat.{ℕ, _+_, _≤_, _<_}
 use native.Mathlib.Omega.{arith}
-use lib.ListN.{length, drop}
+use lib.Dec.{leb}
+use lib.ListN.{length, take}
 use Rattle.sets.specs.Lists.{every, anyOf}
-use Rattle.lists.specs.Bytes.{same, distinct, pieces, left, ended, EndsAt}
-use Rattle.lists.proofs.Pieces.{part, left-start, left-step, left-done, line-step, line-done}
+use Rattle.lists.specs.Bytes.{same, distinct, pieces, left, EndsAt}
+use Rattle.lists.proofs.Pieces.{part, left-start, left-step, left-done}
+use Rattle.program.specs.Names.{isName}
+use Rattle.program.specs.Refusals.{lowest}
+use Rattle.text.specs.Lines.{HasLine}
+use Rattle.text.specs.Refusals.{wrongSize, unended, hasForeign, tooManyLines, namesBroken, namesEqual, openingRefusal}
+use Rattle.text.proofs.Tests.{names-broken-is, names-equal-is}
+use Rattle.form.specs.declared.NamesLine.{NamesLine}
+use Rattle.form.specs.NamesLine.{namesSaid, namesRefusal}
 
-module _ (c : ℕ) (xs : List ℕ) where
-  module _ (p : List ℕ → Bool) where
-    -- all of the pieces below at pass
-    pub record AllPassed (at : ℕ) : Type 0 where
-      pub rest : every p (left c xs at) ≡ every p (pieces c xs)
-
-    pub all-start : AllPassed 0
-    all-start = record { rest = ap (every p) (left-start c xs) }
-
-    all-step : (at e : ℕ) → at ≤ length xs → EndsAt xs c at e → every p (left c xs at) ≡ (p (part xs at e) && every p (left c xs (e + 1)))
-    unfolding every
-    all-step at e h q = rw (q .is) (ap (every p) (left-step c xs at h))
-
-    pub all-not : (at e : ℕ) → AllPassed at → at ≤ length xs → EndsAt xs c at e → p (part xs at e) ≡ false → false ≡ every p (pieces c xs)
-    all-not at e s h q t = rw t at (sym (all-step at e h q)) ∙ s .rest
-
-    pub all-more : (at e : ℕ) → AllPassed at → at ≤ length xs → EndsAt xs c at e → p (part xs at e) ≡ true → AllPassed (e + 1)
-    all-more at e s h q t = record { rest = rw t at (sym (all-step at e h q)) ∙ s .rest }
-
-    pub all-done : (at : ℕ) → AllPassed at → length xs < at → true ≡ every p (pieces c xs)
-    unfolding every
-    all-done at s h = sym (ap (every p) (left-done c xs at h)) ∙ s .rest
+module _ (xs : List ℕ) where
+  -- the next item, and those behind it
+  step : (at e : ℕ) → at ≤ length xs → EndsAt xs 32 at e → left 32 xs at ≡ part xs at e ∷ left 32 xs (e + 1)
+  step at e h q = rw (q .is) (left-step 32 xs at h)
 
   module _ (p : List ℕ → Bool) (from : ℕ) where
-    -- all of the lines between from and at pass
-    pub record LinesHeld (at : ℕ) : Type 0 where
-      pub rest : every p (ended c (drop at xs)) ≡ every p (ended c (drop from xs))
-
-    pub lines-start : LinesHeld from
-    lines-start = record { rest = refl }
-
-    lines-step : (at e : ℕ) → EndsAt xs c at e → e < length xs → every p (ended c (drop at xs)) ≡ (p (part xs at e) && every p (ended c (drop (e + 1) xs)))
-    unfolding every
-    lines-step at e q h = rw (q .is) (ap (every p) (line-step c xs at (rw (q .is) at h)))
-
-    pub lines-not : (at e : ℕ) → LinesHeld at → EndsAt xs c at e → e < length xs → p (part xs at e) ≡ false → false ≡ every p (ended c (drop from xs))
-    lines-not at e s q h t = rw t at (sym (lines-step at e q h)) ∙ s .rest
-
-    pub lines-more : (at e : ℕ) → LinesHeld at → EndsAt xs c at e → e < length xs → p (part xs at e) ≡ true → LinesHeld (e + 1)
-    lines-more at e s q h t = record { rest = rw t at (sym (lines-step at e q h)) ∙ s .rest }
-
-    pub lines-done : (at e : ℕ) → LinesHeld at → EndsAt xs c at e → length xs ≤ e → true ≡ every p (ended c (drop from xs))
-    unfolding every
-    lines-done at e s q h = sym (ap (every p) (line-done c xs at (rw (q .is) at h))) ∙ s .rest
-
-  module _ (p : List ℕ → Bool) (from : ℕ) where
-    -- none of the pieces between from and at passes
+    -- none of the items between from and at passes
     pub record Missed (at : ℕ) : Type 0 where
-      pub rest : anyOf p (left c xs at) ≡ anyOf p (left c xs from)
+      pub rest : anyOf p (left 32 xs at) ≡ anyOf p (left 32 xs from)
 
     pub missed-start : Missed from
     missed-start = record { rest = refl }
 
-    missed-step : (at e : ℕ) → at ≤ length xs → EndsAt xs c at e → anyOf p (left c xs at) ≡ (p (part xs at e) || anyOf p (left c xs (e + 1)))
+    pub missed-hit : (at e : ℕ) → Missed at → at ≤ length xs → EndsAt xs 32 at e → p (part xs at e) ≡ true → true ≡ anyOf p (left 32 xs from)
     unfolding anyOf
-    missed-step at e h q = rw (q .is) (ap (anyOf p) (left-step c xs at h))
+    missed-hit at e s h q t = rw (step at e h q, t) at (s .rest)
 
-    pub missed-hit : (at e : ℕ) → Missed at → at ≤ length xs → EndsAt xs c at e → p (part xs at e) ≡ true → true ≡ anyOf p (left c xs from)
-    missed-hit at e s h q t = rw t at (sym (missed-step at e h q)) ∙ s .rest
-
-    pub missed-more : (at e : ℕ) → Missed at → at ≤ length xs → EndsAt xs c at e → p (part xs at e) ≡ false → Missed (e + 1)
-    missed-more at e s h q t = record { rest = rw t at (sym (missed-step at e h q)) ∙ s .rest }
-
-    pub missed-done : (at : ℕ) → Missed at → length xs < at → false ≡ anyOf p (left c xs from)
+    pub missed-more : (at e : ℕ) → Missed at → at ≤ length xs → EndsAt xs 32 at e → p (part xs at e) ≡ false → Missed (e + 1)
     unfolding anyOf
-    missed-done at s h = sym (ap (anyOf p) (left-done c xs at h)) ∙ s .rest
+    missed-more at e s h q t = record { rest = rw (step at e h q, t) at (s .rest) }
 
-  -- the pieces below at stand nowhere behind themselves
-  pub record Differ (at : ℕ) : Type 0 where
-    pub rest : distinct (left c xs at) ≡ distinct (pieces c xs)
+    pub missed-done : (at : ℕ) → Missed at → length xs < at → false ≡ anyOf p (left 32 xs from)
+    unfolding anyOf
+    missed-done at s h = rw (left-done 32 xs at h) at (s .rest)
 
-  pub differ-start : Differ 0
-  differ-start = record { rest = ap distinct (left-start c xs) }
+  -- the items below at have been counted and tested
+  pub record Naming (at count : ℕ) (named apart : Bool) : Type 0 where
+    pub near : count ≤ at
+    pub many : count + length (left 32 xs at) ≡ length (pieces 32 xs)
+    pub names : named && every isName (left 32 xs at) ≡ every isName (pieces 32 xs)
+    pub differ : apart && distinct (left 32 xs at) ≡ distinct (pieces 32 xs)
 
-  differ-step : (at e : ℕ) → at ≤ length xs → EndsAt xs c at e → distinct (left c xs at) ≡ cond (anyOf (same (part xs at e)) (left c xs (e + 1))) false (distinct (left c xs (e + 1)))
-  unfolding distinct
-  differ-step at e h q = rw (q .is) (ap distinct (left-step c xs at h))
+  pub naming-start : Naming 0 0 true true
+  naming-start =
+      let e = left-start 32 xs in
+      record { near = omega arith; many = omega (arith, ap length e); names = ap (every isName) e; differ = ap distinct e }
 
-  pub differ-not : (at e : ℕ) → Differ at → at ≤ length xs → EndsAt xs c at e → anyOf (same (part xs at e)) (left c xs (e + 1)) ≡ true → false ≡ distinct (pieces c xs)
-  differ-not at e s h q t = rw t at (sym (differ-step at e h q)) ∙ s .rest
+  pub naming-more : (at e count : ℕ) (named apart n s : Bool) → Naming at count named apart → at ≤ length xs → EndsAt xs 32 at e
+      → n ≡ isName (part xs at e) → s ≡ anyOf (same (part xs at e)) (left 32 xs (e + 1)) → Naming (e + 1) (count + 1) (named && n) (apart && not s)
+  unfolding every distinct
+  naming-more at e count named apart n s k h q f g =
+      let st = step at e h q in
+      record {
+        near = omega (arith, k .near, q .from);
+        many = omega (arith, k .many, ap length st);
+        names = and-assoc named n _ ∙ (rw (st, ← f) at (k .names));
+        differ = but-on apart s _ ∙ (rw (st, ← g) at (k .differ));
+      }
+    where
+      but-on : (a b c : Bool) → (a && not b) && c ≡ a && cond b false c
+      but-on true true c = refl
+      but-on true false c = refl
+      but-on false b c = refl
 
-  pub differ-more : (at e : ℕ) → Differ at → at ≤ length xs → EndsAt xs c at e → anyOf (same (part xs at e)) (left c xs (e + 1)) ≡ false → Differ (e + 1)
-  differ-more at e s h q t = record { rest = rw t at (sym (differ-step at e h q)) ∙ s .rest }
+  pub naming-done : (at count : ℕ) (named apart : Bool) → Naming at count named apart → length xs < at
+      → record { count = count; named = named; apart = apart } ≡ namesSaid (pieces 32 xs)
+  unfolding namesSaid every distinct
+  naming-done at count named apart s h =
+      let e = left-done 32 xs at h in
+      let c : count ≡ length (pieces 32 xs) = omega (arith, s .many, ap length e) in
+      let n : named ≡ every isName (pieces 32 xs) = sym (and-true named) ∙ (rw e at (s .names)) in
+      let a : apart ≡ distinct (pieces 32 xs) = sym (and-true apart) ∙ (rw e at (s .differ)) in
+      rw (c, n, a)
 
-  pub differ-done : (at : ℕ) → Differ at → length xs < at → true ≡ distinct (pieces c xs)
-  unfolding distinct
-  differ-done at s h = sym (ap distinct (left-done c xs at h)) ∙ s .rest
+-- ---- 5, 6 or neither
+module _ (b : List ℕ) (e : ℕ) (l : NamesLine) (h : HasLine b) (q : EndsAt b 10 0 e) (f : l ≡ namesSaid (pieces 32 (take e b))) where
+  broken-is : not (leb (l .count) 12 && l .named) ≡ namesBroken b
+  unfolding namesSaid
+  broken-is = rw f (names-broken-is b e h q)
 
-  -- the next item ends within the line
-  pub ends-in : (at e : ℕ) → at ≤ length xs → EndsAt xs c at e → e ≤ length xs
-  ends-in at e h q = omega (arith, q .to)
+  equal-is : not (l .apart) ≡ namesEqual b
+  unfolding namesSaid
+  equal-is = rw f (names-equal-is b e h q)
+
+  pub five : not (leb (l .count) 12 && l .named) ≡ true → 5 ≡ namesRefusal b
+  unfolding namesRefusal lowest
+  five t = rw (← broken-is, t)
+
+  pub six : not (leb (l .count) 12 && l .named) ≡ false → not (l .apart) ≡ true → 6 ≡ namesRefusal b
+  unfolding namesRefusal lowest
+  six t u = rw (← broken-is, t, ← equal-is, u)
+
+  pub neither : not (leb (l .count) 12 && l .named) ≡ false → not (l .apart) ≡ false → 0 ≡ namesRefusal b
+  unfolding namesRefusal lowest
+  neither t u = rw (← broken-is, t, ← equal-is, u)
+
+-- ---- the lowest of the first six that applies
+module _ (b : List ℕ) where
+  pub is1 : wrongSize b ≡ true → 1 ≡ openingRefusal b
+  unfolding openingRefusal lowest
+  is1 t = rw t
+
+  pub is2 : wrongSize b ≡ false → unended b ≡ true → 2 ≡ openingRefusal b
+  unfolding openingRefusal lowest
+  is2 a t = rw (a, t)
+
+  pub is3 : wrongSize b ≡ false → unended b ≡ false → hasForeign b ≡ true → 3 ≡ openingRefusal b
+  unfolding openingRefusal lowest
+  is3 a c t = rw (a, c, t)
+
+  pub is4 : wrongSize b ≡ false → unended b ≡ false → hasForeign b ≡ false → tooManyLines b ≡ true → 4 ≡ openingRefusal b
+  unfolding openingRefusal lowest
+  is4 a c d t = rw (a, c, d, t)
+
+  -- the first four do not apply: the names line decides
+  pub is5-6 : (r : ℕ) → wrongSize b ≡ false → unended b ≡ false → hasForeign b ≡ false → tooManyLines b ≡ false
+      → r ≡ namesRefusal b → r ≡ openingRefusal b
+  unfolding openingRefusal namesRefusal lowest
+  is5-6 r a c d f e = e ∙ rw (a, c, d, f)

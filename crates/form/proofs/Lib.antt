@@ -1,4 +1,3 @@
 -- The laws of the tests' loops.
 pub mod Items
-pub mod ItemRules
-pub mod TestRules
+pub mod Rules

@@ -1,4 +1,4 @@
--- The laws of the reader's loops.
-pub mod Words
+-- The laws of the reader's loops and of its answers.
 pub mod Names
-pub mod TableRules
+pub mod Answers
+pub mod Rules

@@ -1,61 +1,55 @@
 -- The text of good names and rows is accepted, and an accepted text has such. Assumes nothing.
-use mathlib.Core.Path.{_≡_, refl, sym, ap, _∙_}
+use mathlib.Core.Path.{_≡_, refl, ap, _∙_}
 use mathlib.Core.Bool.{Bool, true, false, not, _||_, or-true}
-use mathlib.Core.Logic.{⊎-elim}
 use mathlib.Core.List.{List, [], _∷_, _++_, map, tail}
 use Prim.Native.Nat.{ℕ, _+_, _-_, _*_, _≤_, _<_}
+use native.Mathlib.Nat.{mul-suc}
 use native.Mathlib.Omega.{arith}
-use lib.Dec.{eqb, ltb}
+use lib.Dec.{eqb, leb}
 use lib.ListN.{length, getD, length-append, length-map}
 use lib.Seq.{getD-append-add}
-use borrow.Author.Tests.{eqb-true, eqb-false, eq-eqb, ne-eqb, ltb-true, le-leb, le-ltb, not-true}
+use borrow.Author.Tests.{eq-eqb, ne-eqb, leb-true, le-leb, le-ltb, not-true}
 use Rattle.sets.specs.Lists.{every, anyOf}
-use Rattle.sets.proofs.Tests.{dec, clash, both-true, both-false}
+use Rattle.sets.proofs.Tests.{both-true}
 use Rattle.sets.proofs.Lists.{every-append, every-mono}
-use Rattle.lists.specs.Bytes.{same, pieces, ended, join, close, led}
-use Rattle.lists.proofs.Loops.{same-true, same-self}
+use Rattle.lists.specs.Bytes.{ended, join, close, led}
 use Rattle.lists.proofs.Padding.{every-join}
 use Rattle.decimal.specs.Decimal.{decimal}
-use Rattle.decimal.proofs.Laws.{decimal-every, decimal-injective}
+use Rattle.decimal.proofs.Laws.{decimal-every}
 use Rattle.program.specs.Names.{isPlain, isName}
 use Rattle.program.specs.Refusals.{lowest}
-use Rattle.text.specs.Lines.{names, clauseLines, valueOf, row}
+use Rattle.text.specs.Lines.{names, clauseLines, row}
 use Rattle.text.specs.Render.{bookText}
-use Rattle.text.specs.Refusals.{wrongSize, unended, isForeign, hasForeign, tooManyLines, namesBroken, namesEqual, isValue, lineHolds, clauseBroken, isZero, onlyZeros, refusal}
-use Rattle.text.proofs.Values.{isRow, isSmall, plainLine, text-value, value-short, value-back, zero-text}
+use Rattle.text.specs.Refusals.{wrongSize, unended, isForeign, hasForeign, tooManyLines, namesBroken, namesEqual, isValue, isRow, clauseBroken, onlyZeros, refusal}
+use Rattle.text.proofs.Lists.{every-all, every-map}
+use Rattle.text.proofs.Values.{plainLine, value-short, row-long, row-small}
 use Rattle.text.proofs.Names.{name-parts, name-short}
-use Rattle.text.proofs.Fits.{clear, fit}
-use Rattle.text.proofs.Books.{text-of, lines-are, names-again, clause-lines-again, row-long, row-small, row-items, rows-ruled}
+use Rattle.text.proofs.Fits.{opened, clear}
+use Rattle.text.proofs.Books.{text-of, lines-are, names-again, rows-again}
 use Rattle.text.proofs.Tables.{Good}
 
 -- ---- 1: the size
-led-names : (ns : List (List ℕ)) → every isName ns ≡ true → length (led 32 ns) ≤ 9 * length ns
+-- pieces of at most k bytes each, a byte between them
+led-short : (k : ℕ) (ps : List (List ℕ)) → every (λ p. leb (length p) k) ps ≡ true → length (led 32 ps) ≤ length ps + k * length ps
 unfolding every led
-led-names [] h = omega arith
-led-names (x ∷ ns) h =
-    let a = both-true (isName x) (every isName ns) h in
-    omega (arith, length-append x (led 32 ns), name-short x (a .0), led-names ns (a .1))
+led-short k [] h = omega arith
+led-short k (p ∷ ps) h =
+    let a = both-true (leb (length p) k) (every (λ p. leb (length p) k) ps) h in
+    omega (arith, length-append p (led 32 ps), leb-true (length p) k (a .0), led-short k ps (a .1), mul-suc k (length ps))
+
+join-short : (k : ℕ) (ps : List (List ℕ)) → every (λ p. leb (length p) k) ps ≡ true → length (join 32 ps) ≤ length ps + k * length ps
+unfolding join led
+join-short k [] h = omega arith
+join-short k (p ∷ ps) h = omega (arith, led-short k (p ∷ ps) h)
 
 join-names : (ns : List (List ℕ)) → every isName ns ≡ true → length (join 32 ns) ≤ 9 * length ns
-unfolding every join
-join-names [] h = omega arith
-join-names (x ∷ ns) h =
-    let a = both-true (isName x) (every isName ns) h in
-    omega (arith, length-append x (led 32 ns), name-short x (a .0), led-names ns (a .1))
+join-names ns h = omega (arith, join-short 8 ns (every-mono isName (λ p. leb (length p) 8) (λ x t. le-leb (length x) 8 (name-short x t)) ns h))
 
-led-values : (vs : List ℕ) → every isSmall vs ≡ true → length (led 32 (map decimal vs)) ≤ 3 * length vs
-unfolding every led
-led-values [] h = omega arith
-led-values (v ∷ vs) h =
-    let a = both-true (ltb v 64) (every isSmall vs) h in
-    omega (arith, length-append (decimal v) (led 32 (map decimal vs)), value-short v (ltb-true v 64 (a .0)), led-values vs (a .1))
-
-line-short : (vs : List ℕ) → every isSmall vs ≡ true → length (plainLine vs) ≤ 3 * length vs
-unfolding every plainLine join
-line-short [] h = omega arith
-line-short (v ∷ vs) h =
-    let a = both-true (ltb v 64) (every isSmall vs) h in
-    omega (arith, length-append (decimal v) (led 32 (map decimal vs)), value-short v (ltb-true v 64 (a .0)), led-values vs (a .1))
+line-short : (vs : List ℕ) → every isValue vs ≡ true → length (plainLine vs) ≤ 3 * length vs
+unfolding plainLine
+line-short vs h =
+    let e = every-map decimal isValue (λ p. leb (length p) 2) (λ v t. le-leb (length (decimal v)) 2 (value-short v (leb-true v 63 t))) vs h in
+    omega (arith, join-short 2 (map decimal vs) e, length-map vs decimal)
 
 lines-short : (n : ℕ) (vss : List (List ℕ)) → n ≤ 12 → every (isRow n) vss ≡ true → length (close 10 (map plainLine vss)) ≤ 37 * length vss
 unfolding every close
@@ -120,9 +114,7 @@ none-foreign [] h = refl
 none-foreign (x ∷ xs) h = let a = both-true (not (isForeign x)) (every own xs) h in rw (not-true (isForeign x) (a .0), none-foreign xs (a .1))
 
 decimals-own : (vs : List ℕ) → every (every own) (map decimal vs) ≡ true
-unfolding every
-decimals-own [] = refl
-decimals-own (v ∷ vs) = rw (decimal-every own digit-own v, decimals-own vs)
+decimals-own = every-all decimal (every own) (decimal-every own digit-own)
 
 own-space : own 32 ≡ true
 unfolding own isForeign
@@ -146,43 +138,6 @@ test3 ns vss h = ap (anyOf isForeign) (text-of ns vss) ∙ none-foreign _ (every
     (every-join own 32 own-space ns (every-mono isName (every own) (λ x k. every-mono isPlain own plain-own x (name-parts x k .plain)) ns h))
     (rw (own-end, close-own vss)))
 
--- ---- 4 to 8
-all-valued : (vs : List ℕ) → every isSmall vs ≡ true → every isValue (map decimal vs) ≡ true
-unfolding every
-all-valued [] h = refl
-all-valued (v ∷ vs) h =
-    let a = both-true (ltb v 64) (every isSmall vs) h in
-    rw (text-value v (ltb-true v 64 (a .0)), all-valued vs (a .1))
-
-all-hold : (n : ℕ) (vss : List (List ℕ)) → 1 ≤ n → every (isRow n) vss ≡ true → every (lineHolds n) (map plainLine vss) ≡ true
-unfolding every lineHolds
-all-hold n [] l h = refl
-all-hold n (r ∷ vss) l h =
-    let a = both-true (isRow n r) (every (isRow n) vss) h in
-    let i = row-items n r l (a .0) in
-    let e : length (map decimal r) ≡ n = length-map r decimal ∙ row-long n r (a .0) in
-    rw (i, eq-eqb (length (map decimal r)) n e, all-valued r (row-small n r (a .0)), all-hold n vss l (a .1))
-
-zero-is : (v : ℕ) → isZero (decimal v) ≡ eqb 0 v
-unfolding isZero
-zero-is v = ⊎-elim
-    (λ q. let e = eqb-true 0 v q in ap (λ (x : ℕ). same (48 ∷ []) (decimal x)) (sym e) ∙ ap (same (48 ∷ [])) zero-text ∙ same-self (48 ∷ []) ∙ sym q)
-    (λ q. ⊎-elim
-    (λ t. absurd (eqb-false 0 v q (decimal-injective 0 v (zero-text ∙ same-true (48 ∷ []) (decimal v) t)))) (λ t. t ∙ sym q) (dec (same (48 ∷ []) (decimal v))))
-    (dec (eqb 0 v))
-
-zeros-are : (vs : List ℕ) → every isZero (map decimal vs) ≡ every (eqb 0) vs
-unfolding every
-zeros-are [] = refl
-zeros-are (v ∷ vs) = rw (zero-is v, zeros-are vs)
-
-none-zeros : (n : ℕ) (vss : List (List ℕ)) → 1 ≤ n → every (isRow n) vss ≡ true → anyOf (λ l. every isZero (pieces 32 l)) (map plainLine vss) ≡ anyOf (every (eqb 0)) vss
-unfolding every anyOf
-none-zeros n [] l h = refl
-none-zeros n (r ∷ vss) l h =
-    let a = both-true (isRow n r) (every (isRow n) vss) h in
-    rw (row-items n r l (a .0), zeros-are r, none-zeros n vss l (a .1))
-
 -- the text of good names and rows is accepted
 pub accept-text : (ns vss : List (List ℕ)) → Good ns vss → refusal (bookText ns vss) ≡ 0
 unfolding refusal lowest tooManyLines namesBroken namesEqual clauseBroken onlyZeros
@@ -199,45 +154,27 @@ accept-text ns vss g =
       le-leb (length ns) 12 (g .few),
       g .named,
       g .apart,
-      clause-lines-again ns vss (g .named),
-      all-hold (length ns) vss (g .any) (g .ruled),
-      none-zeros (length ns) vss (g .any) (g .ruled),
+      rows-again (length ns) ns vss (g .any) (g .named) (g .ruled),
+      g .ruled,
       g .told,
     )
 
 -- ---- an accepted text has good names and rows
-zeros-values : (ls : List (List ℕ)) → every (eqb 0) (map valueOf ls) ≡ true → every isZero ls ≡ true
-unfolding every isZero
-zeros-values [] h = refl
-zeros-values (l ∷ ls) h =
-    let a = both-true (eqb 0 (valueOf l)) (every (eqb 0) (map valueOf ls)) h in
-    let z : valueOf l ≡ 0 = sym (eqb-true 0 (valueOf l) (a .0)) in
-    let e : 48 ∷ [] ≡ l = sym zero-text ∙ ap decimal (sym z) ∙ value-back l (omega arith) in
-    rw (ap (same (48 ∷ [])) (sym e) ∙ same-self (48 ∷ []), zeros-values ls (a .1))
-
-told-lines : (ls : List (List ℕ)) → anyOf (λ l. every isZero (pieces 32 l)) ls ≡ false → anyOf (every (eqb 0)) (map row ls) ≡ false
-unfolding anyOf row
-told-lines [] h = refl
-told-lines (l ∷ ls) h =
-    let a = both-false (every isZero (pieces 32 l)) (anyOf (λ x. every isZero (pieces 32 x)) ls) h in
-    let z : every (eqb 0) (map valueOf (pieces 32 l)) ≡ false = ⊎-elim
-    (λ t. clash (every isZero (pieces 32 l)) (zeros-values (pieces 32 l) t) (a .0)) (λ f. f) (dec (every (eqb 0) (map valueOf (pieces 32 l)))) in
-    rw (z, told-lines ls (a .1))
-
 tail-long : (ls : List (List ℕ)) → length ls ≤ 65 → length (tail ls) ≤ 64
 tail-long [] h = omega arith
 tail-long (l ∷ ls) h = omega arith
 
 pub good-read : (b : List ℕ) → refusal b ≡ 0 → Good (names b) (map row (clauseLines b))
-unfolding clauseLines onlyZeros
+unfolding clauseLines
 good-read b h =
-    let f = fit b h in
+    let c = clear b h in
+    let f = opened b (c .opening) in
     record {
       any = f .any;
       few = f .few;
       named = f .named;
       apart = f .apart;
       short = omega (arith, length-map (tail (ended 10 b)) row, tail-long (ended 10 b) (f .many));
-      ruled = rows-ruled (length (names b)) (clauseLines b) (f .whole);
-      told = told-lines (clauseLines b) (clear b h .t8);
+      ruled = c .ruled;
+      told = c .told;
     }

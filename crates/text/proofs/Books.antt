@@ -4,11 +4,9 @@ use mathlib.Core.Bool.{true, false}
 use mathlib.Core.List.{List, [], _∷_, _++_, map, flatMap, tail, append-assoc}
 use Prim.Native.Nat.{ℕ, suc, _+_, _-_, _≤_}
 use native.Mathlib.Omega.{arith}
-use lib.Dec.{eqb}
-use lib.ListN.{length, getD, length-map}
-use borrow.Author.Tests.{eqb-true, eq-eqb, not-false}
+use lib.ListN.{length, getD}
+use borrow.Author.Tests.{eqb-true, not-false}
 use Rattle.sets.specs.Lists.{every}
-use Rattle.sets.proofs.Tests.{both-true}
 use Rattle.sets.proofs.Lists.{every-mono}
 use Rattle.lists.specs.Bytes.{pieces, ended, join, close}
 use Rattle.lists.proofs.Pieces.{join-pieces, pieces-join, close-ended, ended-close}
@@ -17,11 +15,12 @@ use Rattle.decimal.specs.Decimal.{decimal}
 use Rattle.program.specs.Names.{isName}
 use Rattle.text.specs.Lines.{firstLine, lineOf, namesLine, valuesLine, names, clauseLines, valueOf, row}
 use Rattle.text.specs.Render.{bookText}
-use Rattle.text.specs.Refusals.{wrongSize, unended, isValue, lineHolds, refusal}
-use Rattle.text.proofs.Values.{isRow, isSmall, plainLine, items-are, line-back, values-back, small-values, decimals-isnt}
+use Rattle.text.specs.Refusals.{wrongSize, unended, isRow, refusal}
+use Rattle.text.proofs.Lists.{every-of-map, every-all, map-back}
+use Rattle.text.proofs.Values.{row-long, row-small, plainLine, items-are, line-back, values-back, decimals-isnt}
 use Rattle.text.proofs.Names.{name-isnt}
 use Rattle.text.proofs.Tests.{size-some}
-use Rattle.text.proofs.Fits.{clear, fit}
+use Rattle.text.proofs.Fits.{opened, clear}
 
 -- the text by its lines, each without the byte that ends it
 lines-of : (vss : List (List ℕ)) → flatMap valuesLine vss ≡ close 10 (map plainLine vss)
@@ -38,12 +37,8 @@ text-of ns vss =
     ∙ append-assoc (join 32 ns) (10 ∷ []) (close 10 (map plainLine vss))
 
 -- ---- an accepted text is the text of its names and rows
-lines-back : (n : ℕ) (ls : List (List ℕ)) → every (lineHolds n) ls ≡ true → map plainLine (map row ls) ≡ ls
-unfolding every
-lines-back n [] h = refl
-lines-back n (l ∷ ls) h =
-    let a = both-true (lineHolds n l) (every (lineHolds n) ls) h in
-    ap₂ (λ (x : List ℕ) (xs : List (List ℕ)). x ∷ xs) (line-back n l (a .0)) (lines-back n ls (a .1))
+lines-back : (n : ℕ) (ls : List (List ℕ)) → every (isRow n) (map row ls) ≡ true → map plainLine (map row ls) ≡ ls
+lines-back n ls h = map-back row (λ l. isRow n (row l)) plainLine (line-back n) ls (sym (every-of-map row (isRow n) ls) ∙ h)
 
 -- a text that is not empty and ends in 10 is its lines
 lines-whole : (b : List ℕ) → wrongSize b ≡ false → unended b ≡ false → close 10 (ended 10 b) ≡ b
@@ -65,33 +60,16 @@ first-and-rest (l ∷ ls) h = refl
 pub text-back : (b : List ℕ) → refusal b ≡ 0 → bookText (names b) (map row (clauseLines b)) ≡ b
 unfolding names clauseLines
 text-back b h =
-    let t = clear b h in
-    let w = lines-whole b (t .t1) (t .t2) in
-    let f = first-and-rest (ended 10 b) (some-line b (ended 10 b) (t .t1) w) in
+    let c = clear b h in
+    let t = opened b (c .opening) in
+    let w = lines-whole b (t .sized) (t .closed) in
+    let f = first-and-rest (ended 10 b) (some-line b (ended 10 b) (t .sized) w) in
     text-of (names b) (map row (clauseLines b))
-    ∙ ap₂ (λ (x : List ℕ) (xs : List (List ℕ)). close 10 (x ∷ xs)) (join-pieces 32 (firstLine (ended 10 b))) (lines-back (length (names b)) (tail (ended 10 b)) (fit b h .whole))
+    ∙ ap₂ (λ (x : List ℕ) (xs : List (List ℕ)). close 10 (x ∷ xs)) (join-pieces 32 (firstLine (ended 10 b))) (lines-back (length (names b)) (tail (ended 10 b)) (c .ruled))
     ∙ ap (close 10) (sym f) ∙ w
 
--- the rows of an accepted text are rows of values
-pub rows-ruled : (n : ℕ) (ls : List (List ℕ)) → every (lineHolds n) ls ≡ true → every (isRow n) (map row ls) ≡ true
-unfolding every lineHolds isRow row
-rows-ruled n [] h = refl
-rows-ruled n (l ∷ ls) h =
-    let a = both-true (lineHolds n l) (every (lineHolds n) ls) h in
-    let b = both-true (eqb (length (pieces 32 l)) n) (every isValue (pieces 32 l)) (a .0) in
-    let e : length (map valueOf (pieces 32 l)) ≡ n = length-map (pieces 32 l) valueOf ∙ eqb-true (length (pieces 32 l)) n (b .0) in
-    rw (eq-eqb (length (map valueOf (pieces 32 l))) n e, small-values (pieces 32 l) (b .1), rows-ruled n ls (a .1))
-
 -- ---- the text of names and rows gives those again
-pub row-long : (n : ℕ) (vs : List ℕ) → isRow n vs ≡ true → length vs ≡ n
-unfolding isRow
-row-long n vs h = eqb-true (length vs) n (both-true (eqb (length vs) n) (every isSmall vs) h .0)
-
-pub row-small : (n : ℕ) (vs : List ℕ) → isRow n vs ≡ true → every isSmall vs ≡ true
-unfolding isRow
-row-small n vs h = both-true (eqb (length vs) n) (every isSmall vs) h .1
-
-pub row-items : (n : ℕ) (vs : List ℕ) → 1 ≤ n → isRow n vs ≡ true → pieces 32 (plainLine vs) ≡ map decimal vs
+row-items : (n : ℕ) (vs : List ℕ) → 1 ≤ n → isRow n vs ≡ true → pieces 32 (plainLine vs) ≡ map decimal vs
 row-items n [] l h = absurd (omega (arith, row-long n [] h))
 row-items n (v ∷ vs) l h = items-are v vs
 
@@ -100,16 +78,11 @@ unfolding row
 row-back n vs l h = ap (map valueOf) (row-items n vs l h) ∙ values-back vs (row-small n vs h)
 
 rows-back : (n : ℕ) (rows : List (List ℕ)) → 1 ≤ n → every (isRow n) rows ≡ true → map row (map plainLine rows) ≡ rows
-unfolding every
-rows-back n [] l h = refl
-rows-back n (r ∷ rows) l h =
-    let a = both-true (isRow n r) (every (isRow n) rows) h in
-    ap₂ (λ (x : List ℕ) (xs : List (List ℕ)). x ∷ xs) (row-back n r l (a .0)) (rows-back n rows l (a .1))
+rows-back n rows l = map-back plainLine (isRow n) row (λ vs. row-back n vs l) rows
 
 plain-isnt : (rows : List (List ℕ)) → every (every (isnt 10)) (map plainLine rows) ≡ true
-unfolding every plainLine
-plain-isnt [] = refl
-plain-isnt (r ∷ rows) = rw (every-join (isnt 10) 32 refl (map decimal r) (decimals-isnt 10 (omega arith) r), plain-isnt rows)
+unfolding plainLine
+plain-isnt = every-all plainLine (every (isnt 10)) (λ r. every-join (isnt 10) 32 refl (map decimal r) (decimals-isnt 10 (omega arith) r))
 
 -- the lines of the text
 pub lines-are : (ns rows : List (List ℕ)) → every isName ns ≡ true → ended 10 (bookText ns rows) ≡ join 32 ns ∷ map plainLine rows
@@ -127,7 +100,7 @@ pub names-again : (ns rows : List (List ℕ)) → 1 ≤ length ns → every isNa
 names-again [] rows l h = absurd (omega arith)
 names-again (n ∷ ns) rows l h = names-back n ns rows h
 
-pub clause-lines-again : (ns rows : List (List ℕ)) → every isName ns ≡ true → clauseLines (bookText ns rows) ≡ map plainLine rows
+clause-lines-again : (ns rows : List (List ℕ)) → every isName ns ≡ true → clauseLines (bookText ns rows) ≡ map plainLine rows
 unfolding clauseLines
 clause-lines-again ns rows h = ap (λ (l : List (List ℕ)). tail l) (lines-are ns rows h)
 

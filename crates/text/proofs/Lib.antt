@@ -1,4 +1,5 @@
 -- The laws that the other crates cite; RoundTrip and Writings have the theorems.
+pub mod Lists
 pub mod Values
 pub mod Names
 pub mod Tests

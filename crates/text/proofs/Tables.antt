@@ -1,6 +1,6 @@
 -- Tables to names and clauses, clauses to rows of values, and back. Assumes nothing.
 use mathlib.Core.Path.{_≡_, refl, sym, ap, ap₂, _∙_}
-use mathlib.Core.Bool.{Bool, true, false, cond, not, _&&_}
+use mathlib.Core.Bool.{Bool, true, false, not, _&&_}
 use mathlib.Core.Logic.{⊎-elim}
 use mathlib.Core.List.{List, [], _∷_, _++_, map, flatMap, append-assoc}
 use Prim.Native.Nat.{ℕ, zero, suc, _+_, _-_, _*_, _/_, _%_, _^_, _≤_, _<_}
@@ -10,12 +10,11 @@ use native.Mathlib.Omega.{arith}
 use lib.Dec.{eqb, ltb}
 use lib.ListN.{length, getD, take, drop, replicate, length-map, List·getD-map}
 use lib.Seq.{take-at, drop-at, take-add, drop-drop, drop-cons, getD-drop}
-use borrow.Author.Tests.{eqb-true, eq-eqb, ltb-true, lt-ltb, le-leb}
+use borrow.Author.Tests.{eqb-true, eq-eqb, ltb-true, lt-ltb, leb-true, le-leb}
 use Rattle.sets.specs.Lists.{every, anyOf, upFrom, tabulate}
 use Rattle.sets.proofs.Tests.{dec, clash, both-true, both-false}
 use Rattle.sets.proofs.Lists.{length-upFrom, map-upFrom}
-use Rattle.lists.specs.Bytes.{index, same, distinct, padded}
-use Rattle.lists.proofs.Loops.{same-true, same-self}
+use Rattle.lists.specs.Bytes.{index, distinct, padded}
 use Rattle.lists.proofs.Pieces.{index-le}
 use Rattle.lists.proofs.Padding.{padded-long, padded-back, padded-tail, zeros-are}
 use Rattle.program.specs.declared.Program.{Program}
@@ -26,10 +25,11 @@ use Rattle.program.specs.Valid.{zeroFrom, isPlace, namesValid, isClause, clause
 use Rattle.program.proofs.Places.{place-long}
 use Rattle.program.proofs.Validity.{valid-names, valid-clauses, clause-below}
 use Rattle.text.specs.Tables.{placed, tableOf}
+use Rattle.text.specs.Refusals.{isValue, isRow}
 use Rattle.text.specs.Render.{valuesOf}
-use Rattle.text.proofs.Values.{isSmall, isRow}
+use Rattle.text.proofs.Lists.{every-all, every-map, map-back, distinct-map}
+use Rattle.text.proofs.Values.{row-long, row-small}
 use Rattle.text.proofs.Names.{name-short, placed-long, index-name, trim}
-use Rattle.text.proofs.Books.{row-long, row-small}
 
 -- names and rows as a book has them
 pub record Good (ns vss : List (List ℕ)) : Type 0 where
@@ -40,10 +40,6 @@ pub record Good (ns vss : List (List ℕ)) : Type 0 where
   pub short : length vss ≤ 64
   pub ruled : every (isRow (length ns)) vss ≡ true
   pub told : anyOf (every (eqb 0)) vss ≡ false
-
-cond-true : (a b : Bool) → cond a false b ≡ true → (a ≡ false) × (b ≡ true)
-cond-true true b h = clash false h refl
-cond-true false b h = (refl, h)
 
 -- ---- the names of a table
 names-up : (Y zs : List ℕ) (ns : List (List ℕ)) (i : ℕ) → every isName ns ≡ true → drop (8 * i) Y ≡ placed ns ++ zs → upFrom (place Y) (length ns) i ≡ map (padded 8) ns
@@ -68,11 +64,7 @@ unfolding padded tabulate
 places-of ns h = names-up _ (replicate (96 - length (placed ns)) 0) ns 0 h refl
 
 trims : (ns : List (List ℕ)) → every isName ns ≡ true → map named (map (padded 8) ns) ≡ ns
-unfolding every
-trims [] h = refl
-trims (x ∷ ns) h =
-    let a = both-true (isName x) (every isName ns) h in
-    ap₂ (λ (y : List ℕ) (ys : List (List ℕ)). y ∷ ys) (trim x (a .0)) (trims ns (a .1))
+trims = map-back (padded 8) isName named trim
 
 names-are-named : (Y : List ℕ) (k i : ℕ) → upFrom (nameAt Y) k i ≡ map named (upFrom (place Y) k i)
 unfolding nameAt
@@ -83,7 +75,7 @@ unfolding namesOf tableOf tabulate
 names-of-table ns cs h = names-are-named (padded 96 (placed ns)) (length ns) 0 ∙ ap (map named) (places-of ns h) ∙ trims ns h
 
 -- ---- the values of a clause that is made of values
-pub bits-suc : (w i : ℕ) → valueIn w (suc i) ≡ valueIn (w / 4) i
+bits-suc : (w i : ℕ) → valueIn w (suc i) ≡ valueIn (w / 4) i
 unfolding valueIn
 bits-suc w i =
     let q : 2 * suc i ≡ suc (suc (2 * i)) = omega arith in
@@ -100,9 +92,8 @@ word-in (d ∷ ds) (suc i) h =
     bits-suc (d + 4 * wordOf ds) i ∙ ap (λ (w : ℕ). valueIn w i) q ∙ word-in ds i (a .1)
 
 small-bits : (k : ℕ) (vs : List ℕ) → every (λ d. ltb d 4) (map (bitsOf k) vs) ≡ true
-unfolding every bitsOf
-small-bits k [] = refl
-small-bits k (v ∷ vs) = rw (lt-ltb (v / k % 4) 4 (omega arith), small-bits k vs)
+unfolding bitsOf
+small-bits k = every-all (bitsOf k) (λ d. ltb d 4) (λ v. lt-ltb (v / k % 4) 4 (omega arith))
 
 word-at : (k : ℕ) (vs : List ℕ) (i : ℕ) → bitsOf k 0 ≡ 0 → valueIn (wordBy k vs) i ≡ bitsOf k (getD vs i 0)
 unfolding wordBy
@@ -110,13 +101,13 @@ word-at k vs i z =
     word-in (map (bitsOf k) vs) i (small-bits k vs)
     ∙ ap (getD (map (bitsOf k) vs) i) (sym z) ∙ List·getD-map (bitsOf k) vs i 0
 
-small-at : (vs : List ℕ) (i : ℕ) → every isSmall vs ≡ true → getD vs i 0 < 64
+small-at : (vs : List ℕ) (i : ℕ) → every isValue vs ≡ true → getD vs i 0 ≤ 63
 unfolding every
 small-at [] i h = omega arith
-small-at (v ∷ vs) zero h = ltb-true v 64 (both-true (ltb v 64) (every isSmall vs) h .0)
-small-at (v ∷ vs) (suc i) h = small-at vs i (both-true (ltb v 64) (every isSmall vs) h .1)
+small-at (v ∷ vs) zero h = leb-true v 63 (both-true (isValue v) (every isValue vs) h .0)
+small-at (v ∷ vs) (suc i) h = small-at vs i (both-true (isValue v) (every isValue vs) h .1)
 
-value-is : (vs : List ℕ) (i : ℕ) → every isSmall vs ≡ true → clauseValue (clauseOfValues vs) i ≡ getD vs i 0
+value-is : (vs : List ℕ) (i : ℕ) → every isValue vs ≡ true → clauseValue (clauseOfValues vs) i ≡ getD vs i 0
 unfolding clauseOfValues clauseValue bitsOf
 value-is vs i h = omega (arith, word-at 1 vs i refl, word-at 4 vs i refl, word-at 16 vs i refl, small-at vs i h)
 
@@ -133,11 +124,7 @@ values-of n vs h =
     ap (λ (m : ℕ). upFrom f m 0) (sym (row-long n vs h)) ∙ up-is f vs 0 (λ j. ap f (zero-add j) ∙ value-is vs j (row-small n vs h))
 
 pub all-values : (n : ℕ) (vss : List (List ℕ)) → every (isRow n) vss ≡ true → map (clauseValues n) (map clauseOfValues vss) ≡ vss
-unfolding every
-all-values n [] h = refl
-all-values n (r ∷ vss) h =
-    let a = both-true (isRow n r) (every (isRow n) vss) h in
-    ap₂ (λ (l : List ℕ) (ls : List (List ℕ)). l ∷ ls) (values-of n r (a .0)) (all-values n vss (a .1))
+all-values n = map-back clauseOfValues (isRow n) (clauseValues n) (values-of n)
 
 -- ---- the clauses of a table
 
@@ -240,11 +227,7 @@ module _ (n : ℕ) (c : Clause) where
   clause-back h = let s = clause-below n c h in rw (head-back (s .heads), body-back (s .bodies), naf-back (s .nafs))
 
 clauses-back : (n : ℕ) (cs : List Clause) → every (isClause n) cs ≡ true → map clauseOfValues (map (clauseValues n) cs) ≡ cs
-unfolding every
-clauses-back n [] h = refl
-clauses-back n (c ∷ cs) h =
-    let a = both-true (isClause n c) (every (isClause n) cs) h in
-    ap₂ (λ (l : Clause) (ls : List Clause). l ∷ ls) (clause-back n c (a .0)) (clauses-back n cs (a .1))
+clauses-back n = map-back (clauseValues n) (isClause n) clauseOfValues (clause-back n)
 
 up-take : (H : List ℕ) (m i : ℕ) → i + m ≤ length H → upFrom (λ j. getD H j 0) m i ≡ take m (drop i H)
 unfolding upFrom
@@ -292,50 +275,34 @@ module _ (p : Program) (s : Sized p) (v : valid p ≡ true) where
   clauses-again = clauses-back (p .«atom_count») _ (valid-clauses p v .ruled)
 
 -- ---- the names and rows of a valid table are good
-names-good : (ps : List (List ℕ)) → every isPlace ps ≡ true → every isName (map named ps) ≡ true
-unfolding every
-names-good [] h = refl
-names-good (P ∷ ps) h =
-    let a = both-true (isPlace P) (every isPlace ps) h in
-    rw (place-named P (a .0), names-good ps (a .1))
+-- two places of eight bytes with one name are equal
+abbrev whole-place : List ℕ → Bool
+whole-place P = eqb (length P) 8 && isPlace P
 
-differ : (P Q : List ℕ) → length P ≡ 8 → length Q ≡ 8 → isPlace P ≡ true → isPlace Q ≡ true → same P Q ≡ false → same (named P) (named Q) ≡ false
-differ P Q l m a b h = ⊎-elim
-    (λ t. let e = sym (place-back P l a) ∙ ap (padded 8) (same-true (named P) (named Q) t) ∙ place-back Q m b in
-    clash (same P Q) (ap (same P) (sym e) ∙ same-self P) h)
-    (λ t. t) (dec (same (named P) (named Q)))
+whole-places : (Y : List ℕ) (k i : ℕ) → 8 * (i + k) ≤ length Y → every isPlace (upFrom (place Y) k i) ≡ true → every whole-place (upFrom (place Y) k i) ≡ true
+unfolding upFrom every
+whole-places Y zero i h v = refl
+whole-places Y (suc k) i h v =
+    let a = both-true (isPlace (place Y i)) (every isPlace (upFrom (place Y) k (suc i))) v in
+    rw (eq-eqb (length (place Y i)) 8 (place-long Y i (omega arith)), a .0, whole-places Y k (suc i) (omega arith) (a .1))
 
-none-same : (Y P : List ℕ) (k j : ℕ) → length P ≡ 8 → isPlace P ≡ true → 8 * (j + k) ≤ length Y → every isPlace (upFrom (place Y) k j) ≡ true
-    → anyOf (same P) (upFrom (place Y) k j) ≡ false → anyOf (same (named P)) (map named (upFrom (place Y) k j)) ≡ false
-unfolding upFrom every anyOf
-none-same Y P zero j l a b v h = refl
-none-same Y P (suc k) j l a b v h =
-    let w = both-true (isPlace (place Y j)) (every isPlace (upFrom (place Y) k (suc j))) v in
-    let s = both-false (same P (place Y j)) (anyOf (same P) (upFrom (place Y) k (suc j))) h in
-    rw (differ P (place Y j) l (place-long Y j (omega arith)) a (w .0) (s .0), none-same Y P k (suc j) l a (omega arith) (w .1) (s .1))
+one-place : (P Q : List ℕ) → whole-place P ≡ true → whole-place Q ≡ true → named P ≡ named Q → P ≡ Q
+one-place P Q a b e =
+    let p = both-true (eqb (length P) 8) (isPlace P) a in
+    let q = both-true (eqb (length Q) 8) (isPlace Q) b in
+    sym (place-back P (eqb-true (length P) 8 (p .0)) (p .1)) ∙ ap (padded 8) e ∙ place-back Q (eqb-true (length Q) 8 (q .0)) (q .1)
 
-names-apart : (Y : List ℕ) (k i : ℕ) → 8 * (i + k) ≤ length Y → every isPlace (upFrom (place Y) k i) ≡ true → distinct (upFrom (place Y) k i) ≡ true
-    → distinct (map named (upFrom (place Y) k i)) ≡ true
-unfolding upFrom every distinct
-names-apart Y zero i b v h = refl
-names-apart Y (suc k) i b v h =
-    let w = both-true (isPlace (place Y i)) (every isPlace (upFrom (place Y) k (suc i))) v in
-    let s = cond-true (anyOf (same (place Y i)) (upFrom (place Y) k (suc i))) (distinct (upFrom (place Y) k (suc i))) h in
-    rw (none-same Y (place Y i) k (suc i) (place-long Y i (omega arith)) (w .0) (omega arith) (w .1) (s .0), names-apart Y k (suc i) (omega arith) (w .1) (s .1))
-
-values-small : (c : Clause) (k i : ℕ) → every isSmall (upFrom (clauseValue c) k i) ≡ true
+values-small : (c : Clause) (k i : ℕ) → every isValue (upFrom (clauseValue c) k i) ≡ true
 unfolding upFrom every clauseValue
 values-small c zero i = refl
-values-small c (suc k) i = rw (lt-ltb (clauseValue c i) 64 (omega (arith, bits-lt (c .head) i, bits-lt (c .body) i, bits-lt (c .naf) i)), values-small c k (suc i))
+values-small c (suc k) i = rw (le-leb (clauseValue c i) 63 (omega (arith, bits-lt (c .head) i, bits-lt (c .body) i, bits-lt (c .naf) i)), values-small c k (suc i))
 
 row-form : (n : ℕ) (c : Clause) → isRow n (clauseValues n c) ≡ true
 unfolding isRow clauseValues tabulate
 row-form n c = rw (eq-eqb (length (upFrom (clauseValue c) n 0)) n (length-upFrom (clauseValue c) n 0), values-small c n 0)
 
 rows-form : (n : ℕ) (cs : List Clause) → every (isRow n) (map (clauseValues n) cs) ≡ true
-unfolding every
-rows-form n [] = refl
-rows-form n (c ∷ cs) = rw (row-form n c, rows-form n cs)
+rows-form n = every-all (clauseValues n) (isRow n) (row-form n)
 
 zeros-word : (k m : ℕ) → bitsOf k 0 ≡ 0 → wordBy k (replicate m 0) ≡ 0
 unfolding wordBy wordOf
@@ -378,8 +345,8 @@ good-table p s v =
     record {
       any = omega arith;
       few = omega arith;
-      named = ap (every isName) e ∙ names-good (upFrom (place Y) n 0) (t .named);
-      apart = ap distinct e ∙ names-apart Y n 0 (omega (arith, s .names)) (t .named) (t .apart);
+      named = ap (every isName) e ∙ every-map named isPlace isName place-named (upFrom (place Y) n 0) (t .named);
+      apart = ap distinct e ∙ distinct-map named whole-place one-place (upFrom (place Y) n 0) (whole-places Y n 0 (omega (arith, s .names)) (t .named)) (t .apart);
       short = omega (arith, length-map cs (clauseValues n), length-upFrom (clauseAt (p .heads) (p .bodies) (p .nafs)) (p .«clause_count») 0, u .short);
       ruled = rw l (rows-form n cs);
       told = rows-told n cs (u .ruled);
@@ -392,33 +359,12 @@ padded-place x h =
     ap₂ _&&_ (ap isName (trim x h) ∙ h) (ap (λ (n : ℕ). every (eqb 0) (drop n (padded 8 x))) (index-name x h) ∙ padded-tail 8 (length x) x refl)
 
 padded-places : (ns : List (List ℕ)) → every isName ns ≡ true → every isPlace (map (padded 8) ns) ≡ true
-unfolding every
-padded-places [] h = refl
-padded-places (x ∷ ns) h = let a = both-true (isName x) (every isName ns) h in rw (padded-place x (a .0), padded-places ns (a .1))
-
-pads-differ : (x y : List ℕ) → isName x ≡ true → isName y ≡ true → same x y ≡ false → same (padded 8 x) (padded 8 y) ≡ false
-pads-differ x y a b h = ⊎-elim
-    (λ t. let e = sym (trim x a) ∙ ap named (same-true (padded 8 x) (padded 8 y) t) ∙ trim y b in
-    clash (same x y) (ap (same x) (sym e) ∙ same-self x) h)
-    (λ t. t) (dec (same (padded 8 x) (padded 8 y)))
-
-none-again : (x : List ℕ) (ns : List (List ℕ)) → isName x ≡ true → every isName ns ≡ true → anyOf (same x) ns ≡ false → anyOf (same (padded 8 x)) (map (padded 8) ns) ≡ false
-unfolding every anyOf
-none-again x [] a h s = refl
-none-again x (y ∷ ns) a h s =
-    let w = both-true (isName y) (every isName ns) h in
-    let t = both-false (same x y) (anyOf (same x) ns) s in
-    rw (pads-differ x y a (w .0) (t .0), none-again x ns a (w .1) (t .1))
+padded-places = every-map (padded 8) isName isPlace padded-place
 
 pads-apart : (ns : List (List ℕ)) → every isName ns ≡ true → distinct ns ≡ true → distinct (map (padded 8) ns) ≡ true
-unfolding every distinct
-pads-apart [] h d = refl
-pads-apart (x ∷ ns) h d =
-    let w = both-true (isName x) (every isName ns) h in
-    let t = cond-true (anyOf (same x) ns) (distinct ns) d in
-    rw (none-again x ns (w .0) (w .1) (t .0), pads-apart ns (w .1) (t .1))
+pads-apart = distinct-map (padded 8) isName (λ x y a b e. sym (trim x a) ∙ ap named e ∙ trim y b)
 
-word-lt : (k : ℕ) (vs : List ℕ) → wordBy k vs < 2 ^ (2 * length vs)
+pub word-lt : (k : ℕ) (vs : List ℕ) → wordBy k vs < 2 ^ (2 * length vs)
 unfolding wordBy wordOf bitsOf
 word-lt k [] = omega arith
 word-lt k (v ∷ vs) =
@@ -426,18 +372,18 @@ word-lt k (v ∷ vs) =
     let p : 2 ^ (2 * suc (length vs)) ≡ 4 * 2 ^ (2 * length vs) = ap (λ (n : ℕ). 2 ^ n) q ∙ omega (arith, pow-suc 2 (suc (2 * length vs)), pow-suc 2 (2 * length vs)) in
     omega (arith, word-lt k vs)
 
-parts-of : (v : ℕ) → v < 64 → v / 1 % 4 + 4 * (v / 4 % 4) + 16 * (v / 16 % 4) ≡ v
+parts-of : (v : ℕ) → v ≤ 63 → v / 1 % 4 + 4 * (v / 4 % 4) + 16 * (v / 16 % 4) ≡ v
 parts-of v l = omega arith
 
-zero-of : (v : ℕ) → v < 64 → v / 1 % 4 ≡ 0 → v / 4 % 4 ≡ 0 → v / 16 % 4 ≡ 0 → 0 ≡ v
+zero-of : (v : ℕ) → v ≤ 63 → v / 1 % 4 ≡ 0 → v / 4 % 4 ≡ 0 → v / 16 % 4 ≡ 0 → 0 ≡ v
 zero-of v l a b c = rw (a, b, c) at (parts-of v l)
 
-words-zero : (vs : List ℕ) → every isSmall vs ≡ true → wordBy 1 vs ≡ 0 → wordBy 4 vs ≡ 0 → wordBy 16 vs ≡ 0 → every (eqb 0) vs ≡ true
+words-zero : (vs : List ℕ) → every isValue vs ≡ true → wordBy 1 vs ≡ 0 → wordBy 4 vs ≡ 0 → wordBy 16 vs ≡ 0 → every (eqb 0) vs ≡ true
 unfolding every wordBy wordOf bitsOf
 words-zero [] h a b c = refl
 words-zero (v ∷ vs) h a b c =
-    let w = both-true (ltb v 64) (every isSmall vs) h in
-    let l = ltb-true v 64 (w .0) in
+    let w = both-true (isValue v) (every isValue vs) h in
+    let l = leb-true v 63 (w .0) in
     let a1 : v / 1 % 4 ≡ 0 = omega (arith, a) in
     let b1 : v / 4 % 4 ≡ 0 = omega (arith, b) in
     let c1 : v / 16 % 4 ≡ 0 = omega (arith, c) in

@@ -1,5 +1,5 @@
--- The reader's tests on a text that has a line, and the lowest refusal. Assumes nothing.
-use mathlib.Core.Path.{_≡_, refl, sym, ap, ap₂, _∙_}
+-- The first line of a text and those behind it, and the tests of its size, its last byte, its lines and its names. Assumes nothing.
+use mathlib.Core.Path.{_≡_, refl, sym, ap, _∙_}
 use mathlib.Core.Bool.{Bool, true, false, cond, not, _&&_, _||_}
 use mathlib.Core.Logic.{⊎-elim}
 use mathlib.Core.List.{List, [], _∷_, tail}
@@ -8,14 +8,13 @@ use native.Mathlib.Omega.{arith}
 use lib.Dec.{eqb, leb, ltb}
 use lib.ListN.{length, getD, take, drop}
 use borrow.Author.Tests.{eq-eqb, eqb-true, eqb-false, le-leb, not-false}
-use Rattle.sets.specs.Lists.{every, anyOf}
+use Rattle.sets.specs.Lists.{every}
 use Rattle.sets.proofs.Tests.{dec, clash}
 use Rattle.lists.specs.Bytes.{distinct, pieces, ended, index, endOf, EndsAt, CountOf}
 use Rattle.lists.proofs.Pieces.{line-step, length-ended, length-pieces}
 use Rattle.program.specs.Names.{isName}
-use Rattle.program.specs.Refusals.{lowest}
 use Rattle.text.specs.Lines.{HasLine, firstLine, names, clauseLines}
-use Rattle.text.specs.Refusals.{wrongSize, unended, hasForeign, tooManyLines, namesBroken, namesEqual, isValue, lineHolds, clauseBroken, isZero, onlyZeros, refusal}
+use Rattle.text.specs.Refusals.{wrongSize, unended, tooManyLines, namesBroken, namesEqual}
 
 -- a text that is not empty, and whose last byte is 10
 has-last : (x : ℕ) (xs : List ℕ) → getD (x ∷ xs) (length xs) 0 ≡ 10 → index 10 (x ∷ xs) < suc (length xs)
@@ -48,96 +47,31 @@ module _ (b : List ℕ) (e : ℕ) (h : HasLine b) (q : EndsAt b 10 0 e) where
   unfolding clauseLines
   clause-lines-are = ap (λ (l : List (List ℕ)). tail l) both-lines
 
-  pub behind : e + 1 ≤ length b
-  unfolding HasLine
-  behind = omega (arith, q .is)
-
   pub names-count : (n : ℕ) → CountOf 32 (take e b) n → n + 1 ≡ length (names b)
   names-count n c = omega (arith, c .is, length-pieces 32 (take e b), ap length names-are)
 
--- ---- one test for each refusal, on the parts of a text
-pub names-broken-is : (b : List ℕ) (e n : ℕ) (r : Bool) → HasLine b → EndsAt b 10 0 e → CountOf 32 (take e b) n → r ≡ every isName (pieces 32 (take e b))
-    → not (leb (n + 1) 12 && r) ≡ namesBroken b
+-- ---- the tests of the names line and of the number of lines
+pub names-broken-is : (b : List ℕ) (e : ℕ) → HasLine b → EndsAt b 10 0 e
+    → not (leb (length (pieces 32 (take e b))) 12 && every isName (pieces 32 (take e b))) ≡ namesBroken b
 unfolding namesBroken
-names-broken-is b e n r h q c s =
-    let k = names-count b e h q n c in
-    rw (le-leb 1 (length (names b)) (omega arith), ← k, s, names-are b e h q)
+names-broken-is b e h q =
+    let k : 1 ≤ length (names b) = omega (arith, ap length (names-are b e h q), length-pieces 32 (take e b)) in
+    rw (le-leb 1 (length (names b)) k, names-are b e h q)
 
-pub names-equal-is : (b : List ℕ) (e : ℕ) (r : Bool) → HasLine b → EndsAt b 10 0 e → r ≡ distinct (pieces 32 (take e b)) → not r ≡ namesEqual b
+pub names-equal-is : (b : List ℕ) (e : ℕ) → HasLine b → EndsAt b 10 0 e → not (distinct (pieces 32 (take e b))) ≡ namesEqual b
 unfolding namesEqual
-names-equal-is b e r h q s = ap not (s ∙ ap distinct (sym (names-are b e h q)))
-
-pub line-holds-is : (l : List ℕ) (n m : ℕ) (r : Bool) → CountOf 32 l m → r ≡ every isValue (pieces 32 l) → eqb (m + 1) n && r ≡ lineHolds n l
-unfolding lineHolds
-line-holds-is l n m r c s =
-    let k : m + 1 ≡ length (pieces 32 l) = omega (arith, c .is, length-pieces 32 l) in
-    ap₂ (λ (j : ℕ) (t : Bool). eqb j n && t) k s
-
-pub clause-broken-is : (b : List ℕ) (e n : ℕ) (r : Bool) → HasLine b → EndsAt b 10 0 e → CountOf 32 (take e b) n
-    → r ≡ every (lineHolds (n + 1)) (ended 10 (drop (e + 1) b)) → not r ≡ clauseBroken b
-unfolding clauseBroken
-clause-broken-is b e n r h q c s =
-    ap not (s ∙ ap₂ (λ (m : ℕ) (l : List (List ℕ)). every (lineHolds m) l) (names-count b e h q n c) (sym (clause-lines-are b e h q)))
-
-pub only-zeros-is : (b : List ℕ) (e : ℕ) (r : Bool) → HasLine b → EndsAt b 10 0 e → r ≡ anyOf (λ l. every isZero (pieces 32 l)) (ended 10 (drop (e + 1) b)) → r ≡ onlyZeros b
-unfolding onlyZeros
-only-zeros-is b e r h q s = s ∙ ap (anyOf (λ l. every isZero (pieces 32 l))) (sym (clause-lines-are b e h q))
+names-equal-is b e h q = ap (λ (l : List (List ℕ)). not (distinct l)) (sym (names-are b e h q))
 
 pub many-lines-is : (b : List ℕ) (n : ℕ) → CountOf 10 b n → ltb 65 n ≡ tooManyLines b
 unfolding tooManyLines
 many-lines-is b n c = ap (ltb 65) (c .is ∙ sym (length-ended 10 b))
 
--- ---- the lowest that applies
+-- ---- the size and the last byte
 module _ (b : List ℕ) where
-  pub is1 : wrongSize b ≡ true → 1 ≡ refusal b
-  unfolding refusal lowest
-  is1 t = rw t
-
-  pub is2 : wrongSize b ≡ false → unended b ≡ true → 2 ≡ refusal b
-  unfolding refusal lowest
-  is2 a t = rw (a, t)
-
-  pub is3 : wrongSize b ≡ false → unended b ≡ false → hasForeign b ≡ true → 3 ≡ refusal b
-  unfolding refusal lowest
-  is3 a c t = rw (a, c, t)
-
-  pub is4 : wrongSize b ≡ false → unended b ≡ false → hasForeign b ≡ false → tooManyLines b ≡ true → 4 ≡ refusal b
-  unfolding refusal lowest
-  is4 a c d t = rw (a, c, d, t)
-
-  -- the first four do not apply
-  pub record Plain : Type 0 where
-    pub size : wrongSize b ≡ false
-    pub ends : unended b ≡ false
-    pub own : hasForeign b ≡ false
-    pub few : tooManyLines b ≡ false
-
-  pub is5 : Plain → namesBroken b ≡ true → 5 ≡ refusal b
-  unfolding refusal lowest
-  is5 p t = rw (p .size, p .ends, p .own, p .few, t)
-
-  pub is6 : Plain → namesBroken b ≡ false → namesEqual b ≡ true → 6 ≡ refusal b
-  unfolding refusal lowest
-  is6 p a t = rw (p .size, p .ends, p .own, p .few, a, t)
-
-  pub is7 : Plain → namesBroken b ≡ false → namesEqual b ≡ false → clauseBroken b ≡ true → 7 ≡ refusal b
-  unfolding refusal lowest
-  is7 p a c t = rw (p .size, p .ends, p .own, p .few, a, c, t)
-
-  pub is8 : Plain → namesBroken b ≡ false → namesEqual b ≡ false → clauseBroken b ≡ false → onlyZeros b ≡ true → 8 ≡ refusal b
-  unfolding refusal lowest
-  is8 p a c d t = rw (p .size, p .ends, p .own, p .few, a, c, d, t)
-
-  pub is0 : Plain → namesBroken b ≡ false → namesEqual b ≡ false → clauseBroken b ≡ false → onlyZeros b ≡ false → 0 ≡ refusal b
-  unfolding refusal lowest
-  is0 p a c d t = rw (p .size, p .ends, p .own, p .few, a, c, d, t)
-
   pub size-some : wrongSize b ≡ false → 1 ≤ length b
   unfolding wrongSize
   size-some s = ⊎-elim (λ q. clash (eqb (length b) 0 || ltb 4096 (length b)) (rw q) s) (λ q. let n = eqb-false (length b) 0 q in omega arith) (dec (eqb (length b) 0))
 
   pub plain-line : wrongSize b ≡ false → unended b ≡ false → HasLine b
-  unfolding wrongSize unended
-  plain-line s e = has-line b
-      (λ q. clash (eqb (length b) 0 || ltb 4096 (length b)) (rw (eq-eqb (length b) 0 q)) s)
-      (eqb-true _ _ (not-false _ e))
+  unfolding unended
+  plain-line s e = has-line b (λ q. omega (arith, size-some s)) (eqb-true _ _ (not-false _ e))

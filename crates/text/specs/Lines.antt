@@ -45,12 +45,10 @@ names b = items (firstLine (lines b))
 unfoldable pub clauseLines : List ℕ → List (List ℕ)
 clauseLines b = tail (lines b)
 
--- "A value is a decimal number 0 to 63 without leading zeros": the value that an item is, 64 for none
+-- "a decimal number .. without leading zeros": the number up to 65535 that an item is the text of, 65536 for none
 unfoldable pub valueOf : List ℕ → ℕ
-unfolding numberOf
-valueOf i = numberOf 63 i
+valueOf i = numberOf 65535 i
 
--- the values on a line
+-- the numbers on a line
 unfoldable pub row : List ℕ → List ℕ
-unfolding valueOf
 row l = map valueOf (items l)

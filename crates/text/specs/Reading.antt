@@ -16,11 +16,13 @@ use Rattle.text.specs.Refusals.{refusal}
 unfoldable pub programOf : List ℕ → Program
 programOf b = tableOf (names b) (map clauseOfValues (map row (clauseLines b)))
 
--- the reader's answer: "the reader's comes with an all-zero table"
+-- "A refusal carries its number; the reader's comes with an all-zero table"
+abbrev pub refusedWith : ℕ → Read
+refusedWith n = record { verdict = Refused n; program = zeroTable }
+
+-- the reader's answer
 unfoldable pub readOf : List ℕ → Read
-readOf b = cond (eqb (refusal b) 0)
-    (record { verdict = Accepted; program = programOf b })
-    (record { verdict = Refused (refusal b); program = zeroTable })
+readOf b = cond (eqb (refusal b) 0) (record { verdict = Accepted; program = programOf b }) (refusedWith (refusal b))
 
 -- the reader takes the text
 abbrev pub IsAccepted : List ℕ → Type 0

@@ -1,14 +1,14 @@
 -- When the reader says no: refusals 1 to 8, each over the whole text. Assumes nothing.
 use mathlib.Core.Bool.{Bool, not, _&&_, _||_}
-use mathlib.Core.List.{List, [], _∷_}
+use mathlib.Core.List.{List, [], _∷_, _++_, map}
 use Prim.Native.Nat.{ℕ, _-_}
 use lib.Dec.{eqb, leb, ltb}
 use lib.ListN.{length, getD}
 use Rattle.sets.specs.Lists.{every, anyOf}
-use Rattle.lists.specs.Bytes.{same, distinct}
+use Rattle.lists.specs.Bytes.{distinct}
 use Rattle.program.specs.Names.{isPlain, isName}
 use Rattle.program.specs.Refusals.{lowest}
-use Rattle.text.specs.Lines.{lines, items, names, clauseLines, valueOf}
+use Rattle.text.specs.Lines.{lines, names, clauseLines, row}
 
 -- 1. "The book has 0 or more than 4,096 bytes."
 unfoldable pub wrongSize : List ℕ → Bool
@@ -38,27 +38,29 @@ unfoldable pub namesEqual : List ℕ → Bool
 namesEqual b = not (distinct (names b))
 
 -- 7. "A clause line breaks the form above": "a value for each name", "a decimal number 0 to 63".
-unfoldable pub isValue : List ℕ → Bool
-isValue i = leb (valueOf i) 63
+abbrev pub isValue : ℕ → Bool
+isValue v = leb v 63
 
-unfoldable pub lineHolds : ℕ → List ℕ → Bool
-lineHolds n l = eqb (length (items l)) n && every isValue (items l)
+unfoldable pub isRow : ℕ → List ℕ → Bool
+isRow n vs = eqb (length vs) n && every isValue vs
 
 unfoldable pub clauseBroken : List ℕ → Bool
-clauseBroken b = not (every (lineHolds (length (names b))) (clauseLines b))
+clauseBroken b = not (every (isRow (length (names b))) (map row (clauseLines b)))
 
 -- 8. "A clause line has only zeros."
-unfoldable pub isZero : List ℕ → Bool
-isZero i = same (48 ∷ []) i
-
 unfoldable pub onlyZeros : List ℕ → Bool
-onlyZeros b = anyOf (λ l. every isZero (items l)) (clauseLines b)
+onlyZeros b = anyOf (every (eqb 0)) (map row (clauseLines b))
+
+-- 1 to 6: the tests of the bytes and of the names line; the lowest of them that applies, 0 for none
+abbrev pub opening : List ℕ → List (ℕ × Bool)
+opening b = (1, wrongSize b) ∷ (2, unended b) ∷ (3, hasForeign b) ∷ (4, tooManyLines b) ∷ (5, namesBroken b) ∷ (6, namesEqual b) ∷ []
+
+unfoldable pub openingRefusal : List ℕ → ℕ
+openingRefusal b = lowest (opening b)
 
 -- "The reader meets 1 to 8"
 abbrev pub refusals : List ℕ → List (ℕ × Bool)
-refusals b =
-    (1, wrongSize b) ∷ (2, unended b) ∷ (3, hasForeign b) ∷ (4, tooManyLines b)
-    ∷ (5, namesBroken b) ∷ (6, namesEqual b) ∷ (7, clauseBroken b) ∷ (8, onlyZeros b) ∷ []
+refusals b = opening b ++ (7, clauseBroken b) ∷ (8, onlyZeros b) ∷ []
 
 -- "Of several that apply, the lowest is given, wherever in the book each arises": 0 for none
 unfoldable pub refusal : List ℕ → ℕ

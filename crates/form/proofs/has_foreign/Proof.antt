@@ -1,9 +1,9 @@
--- `form::has_foreign` meets its contract. Assumes nothing.
+-- `form::has_foreign` keeps `Scanned`: no byte below `i` is foreign. Assumes nothing.
 use Prim.Native.Nat.{_-_}
 use lib.ListN.{length}
 use Rattle.lists.proofs.Loops.{Scanned}
 use Rattle.text.specs.Refusals.{isForeign, hasForeign}
-use Rattle.form.proofs.ItemRules.{rules}
+use Rattle.form.proofs.Rules.{rules}
 use Rattle.form.proofs.has_foreign.Statement.{statement}
 use Rattle.form.proofs.has_foreign.Tie as tie
 
@@ -22,4 +22,6 @@ unfolding hasForeign
 returns-2 c = search rules
 
 pub has-foreign-spec : {M : Type 1} → statement M
-has-foreign-spec = tie.close (tie.spec Inv-loop μ-loop (λ c. search rules) (λ c. search rules) (λ c. search rules) returns (λ c. search rules) (λ c. search rules) (λ c. search rules) returns-2)
+has-foreign-spec =
+    tie.close (tie.spec Inv-loop μ-loop (λ c. search rules) (λ c. search rules) (λ c. search rules) returns (λ c. search rules) (λ c. search rules)
+    (λ c. search rules) returns-2)

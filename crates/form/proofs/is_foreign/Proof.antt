@@ -1,6 +1,6 @@
--- `form::is_foreign` meets its contract. Assumes nothing.
+-- `form::is_foreign` is the three tests of a byte, of which `is_plain` gives the first. Assumes nothing.
 use Rattle.text.specs.Refusals.{isForeign}
-use Rattle.form.proofs.ItemRules.{rules}
+use Rattle.form.proofs.Rules.{rules}
 use Rattle.form.proofs.is_foreign.Statement.{statement}
 use Rattle.form.proofs.is_foreign.Tie as tie
 

@@ -1,8 +1,8 @@
--- `form::is_unended` meets its contract. Assumes nothing.
+-- `form::is_unended` reads the last byte, which is there since the size is not 0. Assumes nothing.
 use native.Mathlib.Omega.{arith}
 use Rattle.text.specs.Refusals.{unended}
 use Rattle.text.proofs.Tests.{size-some}
-use Rattle.form.proofs.TestRules.{rules}
+use Rattle.form.proofs.Rules.{rules}
 use Rattle.form.proofs.is_unended.Statement.{statement}
 use Rattle.form.proofs.is_unended.Tie as tie
 

@@ -1,5 +1,5 @@
--- `form::too_many_lines` meets its contract. Assumes nothing.
-use Rattle.form.proofs.TestRules.{rules}
+-- `form::too_many_lines` counts bytes 10, of which each line has one. Assumes nothing.
+use Rattle.form.proofs.Rules.{rules}
 use Rattle.form.proofs.too_many_lines.Statement.{statement}
 use Rattle.form.proofs.too_many_lines.Tie as tie
 

@@ -1,6 +1,6 @@
--- `form::wrong_size` meets its contract. Assumes nothing.
+-- `form::wrong_size` is its two tests. Assumes nothing.
 use Rattle.text.specs.Refusals.{wrongSize}
-use Rattle.form.proofs.TestRules.{rules}
+use Rattle.form.proofs.Rules.{rules}
 use Rattle.form.proofs.wrong_size.Statement.{statement}
 use Rattle.form.proofs.wrong_size.Tie as tie
 

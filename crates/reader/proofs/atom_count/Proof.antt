@@ -1,7 +1,7 @@
--- `reader::atom_count` meets its contract. Assumes nothing.
+-- `reader::atom_count` counts the spaces of the first line, one less than its items, which are the names. Assumes nothing.
 use native.Mathlib.Omega.{arith}
 use lib.ListN.{length-take}
-use Rattle.reader.proofs.TableRules.{rules}
+use Rattle.reader.proofs.Rules.{rules}
 use Rattle.reader.proofs.atom_count.Statement.{statement}
 use Rattle.reader.proofs.atom_count.Tie as tie
 

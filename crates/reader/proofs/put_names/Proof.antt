@@ -1,8 +1,8 @@
--- `reader::put_names` meets its contract. Assumes nothing.
+-- `reader::put_names` keeps `Naming`: the places of the names below `at` stand in front, zeros behind them, and with the places of those left they are all. Assumes nothing.
 use Prim.Native.Nat.{_+_, _-_}
 use lib.ListN.{length}
 use Rattle.reader.proofs.Names.{Naming}
-use Rattle.reader.proofs.TableRules.{rules}
+use Rattle.reader.proofs.Rules.{rules}
 use Rattle.reader.proofs.put_names.Statement.{statement}
 use Rattle.reader.proofs.put_names.Tie as tie
 
@@ -13,4 +13,7 @@ abbrev μ-loop : tie.MeasureT-loop
 μ-loop out₀ line a₀ at₀ out a at = length line + 1 - at
 
 pub put-names-spec : {M : Type 1} → statement M
-put-names-spec = tie.close (tie.spec Inv-loop μ-loop (λ c. search rules) (λ c. search rules) (λ c. search rules) (λ c. search rules) (λ c. search rules) (λ c. search rules) (λ c. search rules) (λ c. search rules) (λ c. search rules) (λ c. search rules) (λ c. search rules) (λ c. search rules) (λ c. search rules) (λ c. search rules) (λ c. search rules))
+put-names-spec =
+    tie.close (tie.spec Inv-loop μ-loop (λ c. search rules) (λ c. search rules) (λ c. search rules) (λ c. search rules) (λ c. search rules)
+    (λ c. search rules) (λ c. search rules) (λ c. search rules) (λ c. search rules) (λ c. search rules) (λ c. search rules) (λ c. search rules)
+    (λ c. search rules) (λ c. search rules) (λ c. search rules))

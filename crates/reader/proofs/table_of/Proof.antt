@@ -1,7 +1,7 @@
--- `reader::table_of` meets its contract. Assumes nothing.
-use Rattle.reader.proofs.TableRules.{rules}
+-- `reader::table_of` takes its columns from the clause lines, which say what the rows of a text say where no line breaks the form (`table-is`). Assumes nothing.
+use Rattle.reader.proofs.Rules.{rules}
 use Rattle.reader.proofs.table_of.Statement.{statement}
 use Rattle.reader.proofs.table_of.Tie as tie
 
 pub table-of-spec : {M : Type 1} → statement M
-table-of-spec = tie.close (tie.spec (λ c. search rules) (λ c. search rules) (λ c. search rules) (λ c. search rules) (λ c. search rules) (λ c. search rules) (λ c. search rules))
+table-of-spec = tie.close (tie.spec (λ c. search rules) (λ c. search rules))

@@ -1,0 +1,81 @@
+-- The parts of a text that none of the first six refusals meets, and one law for each way to answer. Assumes nothing.
+use mathlib.Core.Path.{_≡_, sym, ap, _∙_}
+use mathlib.Core.Bool.{Bool, true, false}
+use mathlib.Core.List.{List, [], _∷_}
+use Prim.Native.Nat.{ℕ, _+_, _≤_}
+use native.Mathlib.Omega.{arith}
+use lib.ListN.{length, take}
+use Rattle.sets.specs.Lists.{every}
+use Rattle.lists.specs.Bytes.{pieces, padded, EndsAt, CountOf}
+use Rattle.program.specs.Names.{isName}
+use Rattle.program.specs.Refusals.{lowest}
+use Rattle.program.specs.declared.Program.{Program}
+use Rattle.program.specs.declared.Verdict.the-variants.{Accepted}
+use Rattle.text.specs.declared.Read.{Read}
+use Rattle.text.specs.Lines.{names}
+use Rattle.text.specs.Tables.{placed, tableOf}
+use Rattle.text.specs.Refusals.{clauseBroken, openingRefusal, refusal}
+use Rattle.text.specs.Reading.{programOf, refusedWith, readOf}
+use Rattle.text.proofs.Tests.{names-are, names-count}
+use Rattle.text.proofs.Fits.{early, late, opened}
+use Rattle.text.proofs.RoundTrip.{taken, refused}
+use Rattle.rows.specs.declared.ClauseLines.{ClauseLines}
+use Rattle.rows.specs.Rows.{clausesOf}
+use Rattle.rows.proofs.Reading.{broken-is, clauses-said}
+
+pub none : (b : List ℕ) (k : ℕ) → k ≡ openingRefusal b → k ≡ 0 → openingRefusal b ≡ 0
+none b k e z = sym e ∙ z
+
+-- ---- the names
+module _ (b : List ℕ) (z : openingRefusal b ≡ 0) (e : ℕ) (q : EndsAt b 10 0 e) where
+  are : names b ≡ pieces 32 (take e b)
+  are = names-are b e (opened b z .line) q
+
+  pub each-named : every isName (pieces 32 (take e b)) ≡ true
+  each-named = ap (every isName) (sym are) ∙ opened b z .named
+
+  pub few-named : length (pieces 32 (take e b)) ≤ 12
+  few-named = omega (arith, ap length are, opened b z .few)
+
+  pub names-counted : (n : ℕ) → CountOf 32 (take e b) n → n + 1 ≡ length (names b)
+  names-counted n c = names-count b e (opened b z .line) q n c
+
+  pub names-put : (out : List ℕ) → out ≡ padded 96 (placed (pieces 32 (take e b))) → out ≡ padded 96 (placed (names b))
+  names-put out f = f ∙ ap (λ (l : List (List ℕ)). padded 96 (placed l)) (sym are)
+
+-- ---- the answers
+module _ (b : List ℕ) (r : Read) where
+  -- a refusal that is the lowest
+  by-number : (k : ℕ) → refusal b ≡ k → (k ≡ 0 → ⊥) → r ≡ refusedWith k → r ≡ readOf b
+  by-number k e h g = g ∙ ap refusedWith (sym e) ∙ sym (refused b (λ z. h (sym e ∙ z)))
+
+  pub read-early : (k : ℕ) → k ≡ openingRefusal b → (k ≡ 0 → ⊥) → r ≡ refusedWith k → r ≡ readOf b
+  read-early k e h g = by-number k (early b (λ z. h (e ∙ z)) ∙ sym e) h g
+
+module _ (b : List ℕ) (z : openingRefusal b ≡ 0) (c : ClauseLines) (e : c ≡ clausesOf b) where
+  pub breaks-or-not : (t : Bool) → c .broken ≡ t → clauseBroken b ≡ t
+  breaks-or-not t h = sym (broken-is b z) ∙ ap (λ l. l .broken) (sym e) ∙ h
+
+  pub read-seven : (r : Read) → c .broken ≡ true → r ≡ refusedWith 7 → r ≡ readOf b
+  unfolding lowest
+  read-seven r h g = by-number b r 7 (late b z ∙ rw (breaks-or-not true h)) (λ k. omega arith) g
+
+  -- the refusal where no line breaks the form
+  eighth : c .broken ≡ false → (t : Bool) → c .zeros ≡ t → refusal b ≡ lowest ((8, t) ∷ [])
+  unfolding lowest
+  eighth h t k =
+      let s = clauses-said b z (breaks-or-not false h) in
+      late b z ∙ rw (breaks-or-not false h, ← ap (λ l. l .zeros) s, ← e, k)
+
+  pub read-eight : (r : Read) → c .broken ≡ false → c .zeros ≡ true → r ≡ refusedWith 8 → r ≡ readOf b
+  unfolding lowest
+  read-eight r h k g = by-number b r 8 (eighth h true k) (λ k. omega arith) g
+
+  pub read-table : (p : Program) → c .broken ≡ false → c .zeros ≡ false → p ≡ programOf b → record { verdict = Accepted; program = p } ≡ readOf b
+  unfolding lowest
+  read-table p h k g = rw g (sym (taken b (eighth h false k)))
+
+  pub table-is : (n : ℕ) (nm : List ℕ) → clauseBroken b ≡ false → n ≡ length (names b) → nm ≡ padded 96 (placed (names b))
+      → record { «atom_count» = n; «atom_names» = nm; «clause_count» = c .count; heads = c .heads; bodies = c .bodies; nafs = c .nafs } ≡ programOf b
+  unfolding programOf tableOf
+  table-is n nm h f g = rw (f, g, e ∙ clauses-said b z h)

@@ -1,0 +1,12 @@
+-- `rows::keep` puts the value where there is a place: what is set behind the end of a list leaves it as it is. Assumes nothing.
+use mathlib.Core.Path.{sym}
+use lib.Seq.{set-out}
+use Rattle.rows.proofs.Rules.{rules}
+use Rattle.rows.proofs.keep.Statement.{statement}
+use Rattle.rows.proofs.keep.Tie as tie
+
+returns-2 : tie.Need-returns-2
+returns-2 c = sym (set-out _ _ _ (c .if1 .left))
+
+pub keep-spec : {M : Type 1} → statement M
+keep-spec = tie.close (tie.spec (λ c. search rules) (λ c. search rules) (λ c. search rules) (λ c. search rules) returns-2)

@@ -1,0 +1,17 @@
+-- `rows::weigh` keeps `Weighing`: the tests and words so far are those of the values from `i` on, in front of which the next one comes; three words below 2^24 leave room for it. Assumes nothing.
+use Rattle.rows.proofs.Weighing.{Weighing}
+use Rattle.rows.proofs.Rules.{rules}
+use Rattle.rows.proofs.weigh.Statement.{statement}
+use Rattle.rows.proofs.weigh.Tie as tie
+
+abbrev Inv-loop : tie.InvT-loop
+Inv-loop n values holds₀ zero₀ head₀ body₀ naf₀ i₀ holds zero head body naf i = Weighing values n holds₀ i holds zero head body naf
+
+abbrev μ-loop : tie.MeasureT-loop
+μ-loop n values holds₀ zero₀ head₀ body₀ naf₀ i₀ holds zero head body naf i = i
+
+pub weigh-spec : {M : Type 1} → statement M
+weigh-spec =
+    tie.close (tie.spec Inv-loop μ-loop (λ c. search rules) (λ c. search rules) (λ c. search rules) (λ c. search rules) (λ c. search rules)
+    (λ c. search rules) (λ c. search rules) (λ c. search rules) (λ c. search rules) (λ c. search rules) (λ c. search rules) (λ c. search rules)
+    (λ c. search rules))
