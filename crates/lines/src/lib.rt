@@ -18,6 +18,9 @@ const SPACE: u8 = 32;
 
 const LINE_END: u8 = 10;
 
+// The most atoms of a table, so the most values of a word.
+const MOST_ATOMS: usize = 12;
+
 // ---- items
 // What stands behind the item before `i`: a space, or the line's end behind the last.
 fn separator_of(i: usize, n: usize) -> u8
@@ -174,12 +177,12 @@ pub fn put_last_line(out: &mut [u8], outcome: Outcome, m: u64, v: u64) -> usize
 
 // ---- the lines of models
 // The values of a word.
-fn word_values(w: u32) -> [u64; 12]
+fn word_values(w: u32) -> [u64; MOST_ATOMS]
     ensures { λ r. ⌜ r ≡ tabulate (valueIn w) 12 ⌝ }
 {
-    let mut out = [0u64; 12];
+    let mut out = [0u64; MOST_ATOMS];
     let mut i: usize = 0;
-    while i < 12 {
+    while i < MOST_ATOMS {
         out[i] = program::value_in(w, i) as u64;
         i += 1;
     }
@@ -236,13 +239,13 @@ fn one_if(b: bool) -> u64
 }
 
 // The bits that count `k`.
-fn bits_of(shown: &[u8; 12], k: u64) -> [u64; 12]
+fn bits_of(shown: &[u8; MOST_ATOMS], k: u64) -> [u64; MOST_ATOMS]
     requires { ⌜ 1 ≤ k ⌝ }
     ensures { λ r. ⌜ r ≡ tabulate (bitAt k (now (shown .entry))) 12 ⌝ }
 {
-    let mut out = [0u64; 12];
+    let mut out = [0u64; MOST_ATOMS];
     let mut i: usize = 0;
-    while i < 12 {
+    while i < MOST_ATOMS {
         out[i] = bit_of(shown[i], k);
         i += 1;
     }
@@ -250,19 +253,19 @@ fn bits_of(shown: &[u8; 12], k: u64) -> [u64; 12]
 }
 
 // The flags, 1 for true.
-fn ones_of(flags: &[bool; 12]) -> [u64; 12]
+fn ones_of(flags: &[bool; MOST_ATOMS]) -> [u64; MOST_ATOMS]
     ensures { λ r. ⌜ r ≡ tabulate (flagAt (now (flags .entry))) 12 ⌝ }
 {
-    let mut out = [0u64; 12];
+    let mut out = [0u64; MOST_ATOMS];
     let mut i: usize = 0;
-    while i < 12 {
+    while i < MOST_ATOMS {
         out[i] = one_if(flags[i]);
         i += 1;
     }
     out
 }
 
-fn put_bits(out: &mut [u8], shown: &[u8; 12], k: u64, n: usize) -> usize
+fn put_bits(out: &mut [u8], shown: &[u8; MOST_ATOMS], k: u64, n: usize) -> usize
     requires { ⌜ (1 ≤ k) × Room n 12 (bitsLine k (now shown) n) (now out) ⌝ }
     ensures { λ r. ⌜ Wrote (bitsLine k (now (shown .entry)) n) (now (out .entry)) r (now (out .exit)) ⌝ }
 {
@@ -270,7 +273,7 @@ fn put_bits(out: &mut [u8], shown: &[u8; 12], k: u64, n: usize) -> usize
     put_values_line(out, &bits, n)
 }
 
-fn put_flags(out: &mut [u8], flags: &[bool; 12], n: usize) -> usize
+fn put_flags(out: &mut [u8], flags: &[bool; MOST_ATOMS], n: usize) -> usize
     requires { ⌜ Room n 12 (flagsLine (now flags) n) (now out) ⌝ }
     ensures { λ r. ⌜ Wrote (flagsLine (now (flags .entry)) n) (now (out .entry)) r (now (out .exit)) ⌝ }
 {
@@ -278,7 +281,7 @@ fn put_flags(out: &mut [u8], flags: &[bool; 12], n: usize) -> usize
     put_values_line(out, &ones, n)
 }
 
-fn put_two(out: &mut [u8], shown: &[u8; 12], j: u64, k: u64, n: usize) -> usize
+fn put_two(out: &mut [u8], shown: &[u8; MOST_ATOMS], j: u64, k: u64, n: usize) -> usize
     requires { ⌜ (1 ≤ j) × (1 ≤ k) × Room n 12 (bitsLine j (now shown) n ++ bitsLine k (now shown) n) (now out) ⌝ }
     ensures { λ r. ⌜ Wrote (bitsLine j (now (shown .entry)) n ++ bitsLine k (now (shown .entry)) n) (now (out .entry)) r (now (out .exit)) ⌝ }
 {
@@ -287,7 +290,7 @@ fn put_two(out: &mut [u8], shown: &[u8; 12], j: u64, k: u64, n: usize) -> usize
     a + b
 }
 
-fn put_four(out: &mut [u8], shown: &[u8; 12], n: usize) -> usize
+fn put_four(out: &mut [u8], shown: &[u8; MOST_ATOMS], n: usize) -> usize
     requires { ⌜ Room n 12 (fourLines (now shown) n) (now out) ⌝ }
     ensures { λ r. ⌜ Wrote (fourLines (now (shown .entry)) n) (now (out .entry)) r (now (out .exit)) ⌝ }
 {
@@ -297,7 +300,12 @@ fn put_four(out: &mut [u8], shown: &[u8; 12], n: usize) -> usize
 }
 
 // The lines behind the names line.
-fn put_shown(out: &mut [u8], shown: &[u8; 12], flags: &[bool; 12], n: usize) -> usize
+fn put_shown(
+    out: &mut [u8],
+    shown: &[u8; MOST_ATOMS],
+    flags: &[bool; MOST_ATOMS],
+    n: usize,
+) -> usize
     requires { ⌜ Room n 12 (fourLines (now shown) n ++ flagsLine (now flags) n) (now out) ⌝ }
     ensures { λ r. ⌜ Wrote (fourLines (now (shown .entry)) n ++ flagsLine (now (flags .entry)) n) (now (out .entry)) r (now (out .exit)) ⌝ }
 {
@@ -311,8 +319,8 @@ pub fn put_summary(
     out: &mut [u8],
     names: &[u8; 96],
     n: usize,
-    shown: &[u8; 12],
-    flags: &[bool; 12],
+    shown: &[u8; MOST_ATOMS],
+    flags: &[bool; MOST_ATOMS],
 ) -> usize
     requires { ⌜ Room n 12 (namesLine (tabulate (nameAt (now names)) n) ++ (fourLines (now shown) n ++ flagsLine (now flags) n)) (now out) ⌝ }
     ensures { λ r. ⌜ Wrote (namesLine (tabulate (nameAt (now (names .entry))) n) ++ (fourLines (now (shown .entry)) n ++ flagsLine (now (flags .entry)) n)) (now (out .entry)) r (now (out .exit)) ⌝ }

@@ -15,6 +15,9 @@ ghost use Rattle.lines.specs.Laying.{Room};
 use program::Program;
 use text::Written;
 
+// A text of more bytes is no book, and no table has one so long.
+const MOST_BYTES: usize = 4096;
+
 // The value of atom `i` in a clause.
 fn clause_value(head: u32, body: u32, naf: u32, i: usize) -> u64
     ensures { λ r. ⌜ r ≡ clauseValue (clauseOf head body naf) i ⌝ }
@@ -78,12 +81,12 @@ fn put_text(p: Program, out: &mut [u8]) -> usize
     a + b
 }
 
-// The length of the text, which is written in a room of its own: no text of a valid table is longer than 4,096 bytes.
+// The length of the text, which is written in a room of its own to learn it.
 fn text_length(p: Program) -> usize
     requires { ⌜ valid p ≡ true ⌝ }
     ensures { λ r. ⌜ r ≡ length (render p) ⌝ }
 {
-    let mut room = [0u8; 4096];
+    let mut room = [0u8; MOST_BYTES];
     put_text(p, &mut room)
 }
 
