@@ -1,0 +1,19 @@
+-- `lines::bits_of`: the loop keeps `Filled`: the first `i` bits stand in the array. Assumes nothing.
+use Prim.Native.Nat.{_-_}
+use Rattle.lists.proofs.Filling.{Filled}
+use Rattle.lines.specs.Summary.{bitAt}
+use Rattle.lines.proofs.Rules.{filling}
+use Rattle.lines.proofs.bits_of.Statement.{statement}
+use Rattle.lines.proofs.bits_of.Tie as tie
+
+abbrev Inv-loop : tie.InvT-loop
+Inv-loop shown k out₀ i₀ out i = Filled (bitAt k shown) 0 12 i out
+
+abbrev μ-loop : tie.MeasureT-loop
+μ-loop shown k out₀ i₀ out i = 12 - i
+
+pub bits-of-spec : {M : Type 1} → statement M
+unfolding bitAt
+bits-of-spec = tie.close (tie.spec
+    Inv-loop μ-loop (λ c. search filling) (λ c. search filling) (λ c. search filling) (λ c. search filling) (λ c. search filling)
+    (λ c. search filling) (λ c. search filling) (λ c. search filling) (λ c. search filling))
