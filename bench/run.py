@@ -1,8 +1,8 @@
 #!/usr/bin/env python3
 """Builds report.c with gcc -O2, compares what it and target/bin/report print for every book of books/, byte for byte, and prints the two
 times and their ratio: the least user time of several runs of each, one after the other in turn. Then the fixpoint of each book of stages/,
-by target/bin/pstable with 65,536 words in each working slice, against a limit in seconds. From the repository's root: rt check report pstable &&
-python3 bench/run.py [RUNS [BOOK ..]]"""
+by target/bin/pstable with 65,536 words in each working slice, against a limit in seconds; and the tools that look for what the documents name.
+From the repository's root: rt check report pstable && python3 bench/run.py [RUNS [BOOK ..]]"""
 import os
 import resource
 import subprocess
@@ -51,4 +51,8 @@ if len(sys.argv) < 3:
         if a > limit or last != end:
             failed, last = 1, last + "  (expected %s in %s s)" % (end, limit)
         print("%-14s %8.3f %8.2f  %s" % (name, a, limit, last))
+    for tool in ("check_promises.py", "check_books.py"):
+        print(tool, flush=True)
+        if subprocess.run([sys.executable, os.path.join(here, "..", "tools", tool)]).returncode:
+            failed = 1
 sys.exit(failed)

@@ -1,2 +1,0 @@
--- What the loops of the trials keep. Assumes nothing.
-pub mod Rules
