@@ -11,7 +11,7 @@ ghost use Rattle.program.specs.Names.{nameAt};
 ghost use Rattle.program.specs.Values.{clauseValues, wordValues};
 ghost use Rattle.program.specs.Valid.{valid};
 ghost use Rattle.text.specs.Lines.{namesLine, valuesLine};
-ghost use Rattle.reporting.specs.Lines.{byte, endText, tailText, countsText, bothText, outcomeWord, refusedWord, refusedLine, modelLines, lastLine};
+ghost use Rattle.reporting.specs.Lines.{byte, endText, tailText, countsText, bothText, outcomeWord, refusedWord, refusedLine, modelLines, numbered, lastLine};
 ghost use Rattle.reporting.specs.Printing.{mostBytes, Prints};
 ghost use Rattle.reporting.specs.Report.{searchText, allowance, lent, reportOf, PrintsSearch};
 use program::Outcome;
@@ -92,7 +92,7 @@ pub fn put_word(out: &mut [u8], outcome: Outcome) -> usize
     }
 }
 
-fn put_last_line(out: &mut [u8], outcome: Outcome, m: u64, v: u64) -> usize
+pub fn put_last_line(out: &mut [u8], outcome: Outcome, m: u64, v: u64) -> usize
     requires { ⌜ length (lastLine outcome m v) ≤ length (now out) ⌝ }
     ensures { λ r. ⌜ Wrote (lastLine outcome m v) (now (out .entry)) r (now (out .exit)) ⌝ }
 {
@@ -108,6 +108,26 @@ pub fn put_refused_line(out: &mut [u8], number: u64) -> usize
 {
     let a = put_refused(out);
     let b = put_tail(&mut out[a..], number);
+    a + b
+}
+
+// A line of a word and a number.
+pub fn put_numbered(out: &mut [u8], word: &[u8], v: u64) -> usize
+    requires { ⌜ length (numbered (now word) v) ≤ length (now out) ⌝ }
+    ensures { λ r. ⌜ Wrote (numbered (now (word .entry)) v) (now (out .entry)) r (now (out .exit)) ⌝ }
+{
+    let a = lists::put_bytes(out, word);
+    let b = put_tail(&mut out[a..], v);
+    a + b
+}
+
+// A line of an outcome and a number.
+pub fn put_outcome(out: &mut [u8], outcome: Outcome, m: u64) -> usize
+    requires { ⌜ length (numbered (outcomeWord outcome) m) ≤ length (now out) ⌝ }
+    ensures { λ r. ⌜ Wrote (numbered (outcomeWord outcome) m) (now (out .entry)) r (now (out .exit)) ⌝ }
+{
+    let a = put_word(out, outcome);
+    let b = put_tail(&mut out[a..], m);
     a + b
 }
 

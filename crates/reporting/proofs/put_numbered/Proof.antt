@@ -1,11 +1,11 @@
--- `commands::put_numbered` meets its contract. Assumes nothing.
+-- `reporting::put_numbered` meets its contract. Assumes nothing.
 use native.Mathlib.Omega.{arith}
 use lib.ListN.{length-append}
 use Rattle.reporting.specs.Lines.{tailText}
 use Rattle.reporting.proofs.Texts.{numbered-room}
-use Rattle.commands.proofs.Rules.{rules}
-use Rattle.commands.proofs.put_numbered.Statement.{statement}
-use Rattle.commands.proofs.put_numbered.Tie as tie
+use Rattle.reporting.proofs.Rules.{rules}
+use Rattle.reporting.proofs.put_numbered.Statement.{statement}
+use Rattle.reporting.proofs.put_numbered.Tie as tie
 
 add-result : tie.Need-add-result
 add-result c = let a = c .before .before .before .before .before .before .before .before .before .before in omega (arith, c .before .before .before .before .before .before .put-bytes .ensures .size, c .before .before .put-tail .ensures .size, length-append (a .args .word .now) (tailText (a .args .v)), numbered-room (a .args .word .now) (a .args .v) (a .args .out .now) (a .pre))
