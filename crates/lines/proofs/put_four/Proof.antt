@@ -1,0 +1,16 @@
+-- `lines::put_four`: two lines, and two behind them, by the laws of one text behind the other. Assumes nothing.
+use native.Mathlib.Omega.{arith}
+use Rattle.lines.proofs.Laying.{both-fits}
+use Rattle.lines.proofs.Rules.{behind}
+use Rattle.lines.proofs.put_four.Statement.{statement}
+use Rattle.lines.proofs.put_four.Tie as tie
+
+add-result : tie.Need-add-result
+add-result c =
+    let at-second = c .before .before in
+    let at-first = at-second .before .before .before .before in
+    let at-start = at-first .before .before .before in
+    both-fits _ _ _ _ _ _ _ (at-first .put-two .ensures) (at-start .pre) _ _ (at-second .put-two2 .ensures) (omega arith)
+
+pub put-four-spec : {M : Type 1} → statement M
+put-four-spec = tie.close (tie.spec (λ c. search behind) (λ c. search behind) (λ c. search behind) (λ c. search behind) (λ c. search behind) add-result (λ c. search behind) (λ c. search behind))

@@ -1,0 +1,16 @@
+-- `lines::put_listing`: the names line, and the lines of the models behind it, by the laws of one text behind the other. Assumes nothing.
+use native.Mathlib.Omega.{arith}
+use Rattle.lines.proofs.Laying.{both-fits}
+use Rattle.lines.proofs.Rules.{behind}
+use Rattle.lines.proofs.put_listing.Statement.{statement}
+use Rattle.lines.proofs.put_listing.Tie as tie
+
+add-result : tie.Need-add-result
+add-result c =
+    let at-second = c .before .before in
+    let at-first = at-second .before .before .before .before in
+    let at-start = at-first .before .before .before .before in
+    both-fits _ _ _ _ _ _ _ (at-first .put-names-line .ensures) (at-start .pre .1) _ _ (at-second .put-model-lines .ensures) (omega arith)
+
+pub put-listing-spec : {M : Type 1} → statement M
+put-listing-spec = tie.close (tie.spec (λ c. search behind) (λ c. search behind) (λ c. search behind) (λ c. search behind) (λ c. search behind) add-result (λ c. search behind) (λ c. search behind))

@@ -1,0 +1,22 @@
+-- `lines::put_names_line` meets its contract. Assumes nothing.
+use Prim.Native.Nat.{_-_}
+use Rattle.sets.specs.Lists.{tabulate}
+use Rattle.program.specs.Names.{nameAt}
+use Rattle.text.specs.Lines.{namesLine}
+use Rattle.lines.specs.Laying.{item}
+use Rattle.lines.proofs.Laying.{Laid}
+use Rattle.lines.proofs.Rules.{rules}
+use Rattle.lines.proofs.put_names_line.Statement.{statement}
+use Rattle.lines.proofs.put_names_line.Tie as tie
+
+abbrev Inv-loop : tie.InvT-loop
+Inv-loop out₀ names n at₀ i₀ out at i = Laid (item (nameAt names) n) n (namesLine (tabulate (nameAt names) n)) out₀ at out i
+
+abbrev μ-loop : tie.MeasureT-loop
+μ-loop out₀ names n at₀ i₀ out at i = n - i
+
+put-name-item-requires : tie.Need-put-name-item-requires Inv-loop μ-loop
+put-name-item-requires c κs = (search rules, search rules)
+
+pub put-names-line-spec : {M : Type 1} → statement M
+put-names-line-spec = tie.close (tie.spec Inv-loop μ-loop (λ c. search rules) (λ c. search rules) (λ c. search rules) (λ c. search rules) put-name-item-requires (λ c. search rules) (λ c. search rules) (λ c. search rules) (λ c. search rules) (λ c. search rules) (λ c. search rules))

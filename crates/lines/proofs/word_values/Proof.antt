@@ -1,0 +1,16 @@
+-- `lines::word_values` meets its contract. Assumes nothing.
+use Prim.Native.Nat.{_-_}
+use Rattle.program.specs.Values.{valueIn}
+use Rattle.lists.proofs.Filling.{Filled}
+use Rattle.lines.proofs.Rules.{rules}
+use Rattle.lines.proofs.word_values.Statement.{statement}
+use Rattle.lines.proofs.word_values.Tie as tie
+
+abbrev Inv-loop : tie.InvT-loop
+Inv-loop w out₀ i₀ out i = Filled (valueIn w) 0 12 i out
+
+abbrev μ-loop : tie.MeasureT-loop
+μ-loop w out₀ i₀ out i = 12 - i
+
+pub word-values-spec : {M : Type 1} → statement M
+word-values-spec = tie.close (tie.spec Inv-loop μ-loop (λ c. search rules) (λ c. search rules) (λ c. search rules) (λ c. search rules) (λ c. search rules) (λ c. search rules) (λ c. search rules) (λ c. search rules))
