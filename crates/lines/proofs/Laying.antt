@@ -101,12 +101,12 @@ pub firsts : (vs : List ℕ) (n : ℕ) → n ≤ length vs → take n vs ≡ tab
 firsts vs n h = ext-getD 0 (take n vs) (tabulate (λ i. getD vs i 0) n) (length-take-le n vs h ∙ sym (length-tabulate (λ i. getD vs i 0) n))
     (λ i l. let k : i < n = omega (arith, length-take-le n vs h) in getD-take n vs i 0 k ∙ sym (getD-tabulate (λ i. getD vs i 0) n i 0 k))
 
-line-values : (f : ℕ → ℕ) (n : ℕ) → valuesLine (tabulate f n) ≡ lineOf (tabulate (λ i. decimal (f i)) n)
+pub row-laid : (f : ℕ → ℕ) (n : ℕ) → 1 ≤ n → valuesLine (tabulate f n) ≡ laid (item (λ i. decimal (f i)) n) n 0
 unfolding valuesLine tabulate
-line-values f n = ap lineOf (map-upFrom decimal f n 0)
+row-laid f n h = ap lineOf (map-upFrom decimal f n 0) ∙ line-laid (λ i. decimal (f i)) n h
 
 pub values-laid : (vs : List ℕ) (n : ℕ) → 1 ≤ n → n ≤ length vs → valuesLine (take n vs) ≡ laid (item (numberAt vs) n) n 0
-values-laid vs n h l = ap valuesLine (firsts vs n l) ∙ line-values (λ i. getD vs i 0) n ∙ line-laid (numberAt vs) n h
+values-laid vs n h l = ap valuesLine (firsts vs n l) ∙ row-laid (λ i. getD vs i 0) n h
 
 abbrev pub modelAt : ℕ → List ℕ → ℕ → List ℕ
 modelAt n ms k = valuesLine (wordValues n (getD ms k 0))
@@ -116,7 +116,7 @@ unfolding modelLines
 models-laid n ms m h = ap (modelLines n) (firsts ms m h) ∙ flat-laid (λ w. valuesLine (wordValues n w)) (λ i. getD ms i 0) m
 
 -- a word and numbers behind it
-worded-is : (w vs : List ℕ) → 1 ≤ length vs → worded w vs ≡ (w ++ 32 ∷ []) ++ valuesLine vs
+pub worded-is : (w vs : List ℕ) → 1 ≤ length vs → worded w vs ≡ (w ++ 32 ∷ []) ++ valuesLine vs
 unfolding worded lineOf valuesLine join led
 worded-is w [] h = absurd (omega arith)
 worded-is w (v ∷ vs) h =

@@ -10,7 +10,7 @@ ghost use Rattle.program.specs.Values.{valueIn, wordValues};
 ghost use Rattle.text.specs.Lines.{namesLine, valuesLine};
 ghost use Rattle.lines.specs.Laying.{separator, item, numberAt, Room, Spans};
 ghost use Rattle.lines.specs.Printed.{outcomeWord, numbered, refusedLine, modelLines, lastLine};
-ghost use Rattle.lines.specs.Summed.{bitAt, bitsLine, fourLines, flagAt, flagsLine};
+ghost use Rattle.lines.specs.Summary.{bitAt, bitsLine, fourLines, flagAt, flagsLine};
 use program::Outcome;
 
 // What stands between items, and what ends a line.

@@ -1,9 +1,9 @@
--- `lines::put_model_lines` meets its contract. Assumes nothing.
+-- `lines::put_model_lines`: the loop keeps `Laid`: the lines of the first `k` words stand there. Assumes nothing.
 use Prim.Native.Nat.{_-_}
 use lib.ListN.{take}
 use Rattle.lines.specs.Printed.{modelLines}
 use Rattle.lines.proofs.Laying.{Laid, modelAt}
-use Rattle.lines.proofs.Rules.{rules}
+use Rattle.lines.proofs.Rules.{laying}
 use Rattle.lines.proofs.put_model_lines.Statement.{statement}
 use Rattle.lines.proofs.put_model_lines.Tie as tie
 
@@ -14,4 +14,4 @@ abbrev μ-loop : tie.MeasureT-loop
 μ-loop out₀ models m n at₀ k₀ out at k = m - k
 
 pub put-model-lines-spec : {M : Type 1} → statement M
-put-model-lines-spec = tie.close (tie.spec Inv-loop μ-loop (λ c. search rules) (λ c. search rules) (λ c. search rules) (λ c. search rules) (λ c. search rules) (λ c. search rules) (λ c. search rules) (λ c. search rules) (λ c. search rules) (λ c. search rules) (λ c. search rules) (λ c. search rules) (λ c. search rules))
+put-model-lines-spec = tie.close (tie.spec Inv-loop μ-loop (λ c. search laying) (λ c. search laying) (λ c. search laying) (λ c. search laying) (λ c. search laying) (λ c. search laying) (λ c. search laying) (λ c. search laying) (λ c. search laying) (λ c. search laying) (λ c. search laying) (λ c. search laying) (λ c. search laying))

@@ -1,7 +1,7 @@
--- `lines::put_name` meets its contract. Assumes nothing.
-use Rattle.lines.proofs.Rules.{rules}
+-- `lines::put_name`: a name is the front of its place, up to its length. Assumes nothing.
+use Rattle.lines.proofs.Rules.{naming}
 use Rattle.lines.proofs.put_name.Statement.{statement}
 use Rattle.lines.proofs.put_name.Tie as tie
 
 pub put-name-spec : {M : Type 1} → statement M
-put-name-spec = tie.close (tie.spec (λ c. search rules) (λ c. search rules) (λ c. search rules) (λ c. search rules) (λ c. search rules) (λ c. search rules) (λ c. search rules) (λ c. search rules) (λ c. search rules))
+put-name-spec = tie.close (tie.spec (λ c. search naming) (λ c. search naming) (λ c. search naming) (λ c. search naming) (λ c. search naming) (λ c. search naming) (λ c. search naming) (λ c. search naming) (λ c. search naming))

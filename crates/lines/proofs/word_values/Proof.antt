@@ -1,8 +1,8 @@
--- `lines::word_values` meets its contract. Assumes nothing.
+-- `lines::word_values`: the loop keeps `Filled`: the first `i` values stand in the array. Assumes nothing.
 use Prim.Native.Nat.{_-_}
 use Rattle.program.specs.Values.{valueIn}
 use Rattle.lists.proofs.Filling.{Filled}
-use Rattle.lines.proofs.Rules.{rules}
+use Rattle.lines.proofs.Rules.{filling}
 use Rattle.lines.proofs.word_values.Statement.{statement}
 use Rattle.lines.proofs.word_values.Tie as tie
 
@@ -13,4 +13,4 @@ abbrev μ-loop : tie.MeasureT-loop
 μ-loop w out₀ i₀ out i = 12 - i
 
 pub word-values-spec : {M : Type 1} → statement M
-word-values-spec = tie.close (tie.spec Inv-loop μ-loop (λ c. search rules) (λ c. search rules) (λ c. search rules) (λ c. search rules) (λ c. search rules) (λ c. search rules) (λ c. search rules) (λ c. search rules))
+word-values-spec = tie.close (tie.spec Inv-loop μ-loop (λ c. search filling) (λ c. search filling) (λ c. search filling) (λ c. search filling) (λ c. search filling) (λ c. search filling) (λ c. search filling) (λ c. search filling))

@@ -1,0 +1,143 @@
+-- How long lines are: names of up to 8 bytes, numbers of so many digits, and what is printed of them. Assumes nothing.
+use mathlib.Core.Path.{_≡_, refl, sym, ap, _∙_}
+use mathlib.Core.Bool.{Bool, true, false}
+use mathlib.Core.List.{List, [], _∷_, _++_, flatMap}
+use Prim.Native.Nat.{ℕ, zero, suc, _+_, _*_, _^_, _≤_, _<_}
+use native.Mathlib.Omega.{arith}
+use lib.ListN.{length, getD, take, length-append, length-take}
+use lib.Seq.{take-length}
+use Rattle.sets.specs.Lists.{upFrom, onward, tabulate}
+use Rattle.sets.proofs.Lists.{onward-start}
+use Rattle.lists.specs.Bytes.{oneIf}
+use Rattle.decimal.specs.Decimal.{decimal}
+use Rattle.decimal.proofs.Laws.{decimal-short}
+use Rattle.program.specs.declared.Program.{Program}
+use Rattle.program.specs.declared.Outcome.{Outcome}
+use Rattle.program.specs.declared.Outcome.the-variants as ended
+use Rattle.program.specs.Names.{nameAt, namesOf}
+use Rattle.program.specs.Values.{valueIn, wordValues}
+use Rattle.text.specs.Lines.{namesLine, valuesLine}
+use Rattle.lines.specs.Laying.{separator, item}
+use Rattle.lines.specs.Printed.{refusedWord, outcomeWord, worded, numbered, refusedLine, modelLines, listing, lastLine}
+use Rattle.lines.specs.Summary.{bitAt, bitsLine, fourLines, flagAt, flagsLine}
+use Rattle.lines.proofs.Laying.{laid, names-laid, firsts, row-laid, worded-is}
+use Rattle.lines.proofs.Names.{name-most}
+
+-- n pieces of at most b bytes
+pub laid-most : (f : ℕ → List ℕ) (n b : ℕ) → ((i : ℕ) → i < n → length (f i) ≤ b) → length (laid f n 0) ≤ b * n
+unfolding laid flatMap upFrom tabulate
+laid-most f n b h = let q = go n 0 (λ j l. h j (omega arith)) in rw (onward-start f n) q
+  where
+    go : (k i : ℕ) → ((j : ℕ) → j < i + k → length (f j) ≤ b) → length (flatMap (λ t. t) (upFrom f k i)) ≤ b * k
+    go zero i h = omega arith
+    go (suc k) i h =
+        let e : b * suc k ≡ b * k + b = omega arith in
+        omega (arith, h i (omega arith), go k (suc i) (λ j l. h j (omega arith)), length-append (f i) (flatMap (λ t. t) (upFrom f k (suc i))))
+
+-- a line of n items of fewer than b bytes
+items-most : (f : ℕ → List ℕ) (n b : ℕ) → ((i : ℕ) → i < n → length (f i) < b) → length (laid (item f n) n 0) ≤ b * n
+items-most f n b h = laid-most (item f n) n b (λ i l. omega (arith, h i l, length-append (f i) (separator (i + 1) n ∷ [])))
+
+-- ---- a line of names
+pub names-most : (ns : List ℕ) (n : ℕ) → 1 ≤ n → length (namesLine (tabulate (nameAt ns) n)) ≤ 9 * n
+names-most ns n h = rw (names-laid (nameAt ns) n h) (items-most (nameAt ns) n 9 (λ i l. omega (arith, name-most ns i)))
+
+-- ---- a line of numbers below 10 ^ (k + 1)
+pub row-most : (f : ℕ → ℕ) (n k : ℕ) → 1 ≤ n → ((i : ℕ) → i < n → f i < 10 ^ suc k) → length (valuesLine (tabulate f n)) ≤ (k + 2) * n
+row-most f n k h d = rw (row-laid f n h) (items-most (λ i. decimal (f i)) n (k + 2) (λ i l. omega (arith, decimal-short k (f i) (d i l))))
+
+pub values-most : (vs : List ℕ) (k : ℕ) → 1 ≤ length vs → ((i : ℕ) → i < length vs → getD vs i 0 < 10 ^ suc k) → length (valuesLine vs) ≤ (k + 2) * length vs
+values-most vs k h d =
+    let e : vs ≡ tabulate (λ i. getD vs i 0) (length vs) = sym (take-length vs) ∙ firsts vs (length vs) (omega arith) in
+    omega (arith, row-most (λ i. getD vs i 0) (length vs) k h d, ap (λ (l : List ℕ). length (valuesLine l)) e)
+
+-- ---- a line of a word and numbers
+worded-most : (w vs : List ℕ) → 1 ≤ length vs → ((i : ℕ) → i < length vs → getD vs i 0 < 2 ^ 64) → length (worded w vs) ≤ length w + 1 + 21 * length vs
+worded-most w vs h d = omega (
+  arith,
+  ap length (worded-is w vs h),
+  length-append (w ++ 32 ∷ []) (valuesLine vs),
+  length-append w (32 ∷ []),
+  values-most vs 19 h (λ i l. omega (arith, d i l)),
+)
+
+pub numbered-most : (w : List ℕ) (v : ℕ) → v < 2 ^ 64 → length (numbered w v) ≤ length w + 22
+unfolding numbered
+numbered-most w v h = let q = worded-most w (v ∷ []) (omega arith) each in omega arith
+  where
+    each : (i : ℕ) → i < 1 → getD (v ∷ []) i 0 < 2 ^ 64
+    each zero l = h
+    each (suc i) l = absurd (omega arith)
+
+pub refused-most : (r : ℕ) → r < 2 ^ 64 → length (refusedLine r) ≤ 64
+unfolding refusedLine refusedWord
+refused-most r h = omega (arith, numbered-most refusedWord r h)
+
+pub outcome-most : (o : Outcome) → length (outcomeWord o) ≤ 8
+unfolding outcomeWord refusedWord
+outcome-most ended.Complete = omega arith
+outcome-most ended.Full = omega arith
+outcome-most ended.Spent = omega arith
+outcome-most (ended.Refused n) = omega arith
+
+pub last-most : (o : Outcome) (m v : ℕ) → m < 2 ^ 64 → v < 2 ^ 64 → length (lastLine o m v) ≤ 64
+unfolding lastLine
+last-most o m v h k = let q = worded-most (outcomeWord o) (m ∷ v ∷ []) (omega arith) each in omega (arith, outcome-most o)
+  where
+    each : (i : ℕ) → i < 2 → getD (m ∷ v ∷ []) i 0 < 2 ^ 64
+    each zero l = h
+    each (suc zero) l = k
+    each (suc (suc i)) l = absurd (omega arith)
+
+-- ---- the lines of models, and the listing
+pub value-small : (w i : ℕ) → valueIn w i < 4
+unfolding valueIn
+value-small w i = omega arith
+
+model-most : (w n : ℕ) → 1 ≤ n → n ≤ 12 → length (valuesLine (wordValues n w)) ≤ 24
+unfolding wordValues
+model-most w n h l = omega (arith, row-most (valueIn w) n 0 h (λ i k. omega (arith, value-small w i)))
+
+pub models-most : (n : ℕ) (ws : List ℕ) → 1 ≤ n → n ≤ 12 → length (modelLines n ws) ≤ 24 * length ws
+unfolding modelLines flatMap
+models-most n [] h l = omega arith
+models-most n (w ∷ ws) h l =
+    omega (arith, models-most n ws h l, model-most w n h l, length-append (valuesLine (wordValues n w)) (flatMap (λ w. valuesLine (wordValues n w)) ws))
+
+pub listing-most : (ns : List ℕ) (n : ℕ) (ms : List ℕ) (m : ℕ) → 1 ≤ n → n ≤ 12 → length (namesLine (tabulate (nameAt ns) n) ++ modelLines n (take m ms)) ≤ 108 + 24 * m
+listing-most ns n ms m h l =
+    omega (arith, length-append (namesLine (tabulate (nameAt ns) n)) (modelLines n (take m ms)), names-most ns n h, models-most n (take m ms) h l, length-take m ms)
+
+pub listing-is : (p : Program) (ms : List ℕ) (m : ℕ) → namesLine (tabulate (nameAt (p .«atom_names»)) (p .«atom_count»)) ++ modelLines (p .«atom_count») (take m ms) ≡ listing p (take m ms)
+unfolding listing namesOf
+listing-is p ms m = refl
+
+-- ---- the lines of a summary
+module _ (n : ℕ) (h : 1 ≤ n) (l : n ≤ 12) where
+  bits-most : (k : ℕ) (shown : List ℕ) → length (bitsLine k shown n) ≤ 24
+  unfolding bitsLine bitAt
+  bits-most k shown = omega (arith, row-most (bitAt k shown) n 0 h (λ i l. omega arith))
+
+  flags-most : (flags : List Bool) → length (flagsLine flags n) ≤ 24
+  unfolding flagsLine flagAt
+  flags-most flags = omega (arith, row-most (flagAt flags) n 0 h (λ i l. small (getD flags i false)))
+    where
+      small : (b : Bool) → oneIf b < 10
+      small true = omega arith
+      small false = omega arith
+
+  pub summary-most : (ns shown : List ℕ) (flags : List Bool) → length (namesLine (tabulate (nameAt ns) n) ++ (fourLines shown n ++ flagsLine flags n)) ≤ 228
+  summary-most ns shown flags = omega (
+    arith,
+    length-append (namesLine (tabulate (nameAt ns) n)) (fourLines shown n ++ flagsLine flags n),
+    length-append (fourLines shown n) (flagsLine flags n),
+    length-append (bitsLine 1 shown n ++ bitsLine 2 shown n) (bitsLine 4 shown n ++ bitsLine 8 shown n),
+    length-append (bitsLine 1 shown n) (bitsLine 2 shown n),
+    length-append (bitsLine 4 shown n) (bitsLine 8 shown n),
+    names-most ns n h,
+    bits-most 1 shown,
+    bits-most 2 shown,
+    bits-most 4 shown,
+    bits-most 8 shown,
+    flags-most flags,
+  )
