@@ -5,7 +5,7 @@ use Prim.Native.Nat.{ℕ}
 use Rattle.text.specs.Refusals.{refusal}
 use Rattle.text.specs.Reading.{readOf, IsAccepted}
 use Rattle.text.proofs.RoundTrip.{refused, written-back}
-use Rattle.reporting.specs.Lines.{refusedLine}
+use Rattle.lines.specs.Printed.{refusedLine}
 use Rattle.commands.specs.declared.Command.{Command}
 use Rattle.commands.specs.declared.Command.the-variants.{Search, Write}
 use Rattle.commands.specs.Printing.{unlessRefused, printed}

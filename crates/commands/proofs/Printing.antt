@@ -19,7 +19,7 @@ use Rattle.text.specs.Refusals.{wrongSize, refusal}
 use Rattle.text.specs.Reading.{readOf, IsAccepted}
 use Rattle.text.specs.Render.{render}
 use Rattle.text.proofs.RoundTrip as trip
-use Rattle.reporting.specs.Lines.{refusedLine}
+use Rattle.lines.specs.Printed.{refusedLine}
 use Rattle.commands.specs.declared.Command.{Command}
 use Rattle.commands.specs.declared.Command.the-variants as command
 use Rattle.commands.specs.Printing.{unlessRefused, printed, mostBytes, Prints, Ready}

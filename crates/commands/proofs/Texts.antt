@@ -11,17 +11,18 @@ use lib.Seq.{length-take-le, take-all}
 use borrow.Author.Tests.{le-ltb, ltb-false}
 use types.Run.{OneOf}
 use denote.Enum.Declared.{tagOf}
+use Rattle.sets.specs.Lists.{tabulate}
 use Rattle.lists.specs.Bytes.{join, led, Wrote}
 use Rattle.lists.proofs.Writing.{two-texts, back}
 use Rattle.program.specs.declared.Program.{Program}
 use Rattle.program.specs.declared.Outcome.{Outcome}
 use Rattle.program.specs.declared.Outcome.the-variants as outcome
 use Rattle.program.specs.declared.Verdict.the-variants as verdict
-use Rattle.program.specs.Names.{namesOf}
+use Rattle.program.specs.Names.{nameAt, namesOf}
 use Rattle.program.specs.Refusals.{lowest}
 use Rattle.program.proofs.Outcome.{the-type}
 use Rattle.program.proofs.Validity.{valid-names}
-use Rattle.text.specs.Lines.{lineOf}
+use Rattle.text.specs.Lines.{lineOf, namesLine}
 use Rattle.text.specs.Render.{render}
 use Rattle.text.specs.Writing as writing
 use Rattle.text.specs.declared.Written.{Written}
@@ -39,47 +40,53 @@ use Rattle.fixpoint.specs.Answer as fixed
 use Rattle.fixpoint.specs.Answer.{Fixes, roomOf}
 use Rattle.summary.specs.declared.Summary.{Summary}
 use Rattle.summary.specs.Summary.{summaryOf}
-use Rattle.reporting.specs.Lines.{outcomeWord, numbered, refusedLine, listing, lastLine}
-use Rattle.reporting.proofs.Texts.{word-most, numbered-most, refused-most, last-most, shown, shown-most, shown-is}
-use Rattle.showing.proofs.Laws.{linesText, lines-room}
+use Rattle.lines.specs.Laying.{Room}
+use Rattle.lines.specs.Printed.{outcomeWord, numbered, refusedLine, modelLines, listing, lastLine}
+use Rattle.lines.specs.Summary.{fourLines, flagsLine}
+use Rattle.lines.proofs.Bounds.{numbered-most, refused-most, outcome-most, listing-most, listing-is, summary-most}
 use Rattle.commands.specs.Printing.{mostBytes, unlessRefused, unlessEnded, Ready, Lent}
-use Rattle.commands.specs.Commands.{violatedWord, smallerWord, stableWord, checkedLine, checkText, lentList, searchText, workSlice, fixedText, fixpointText, summaryLines, summarizedText, allowance, lent, summaryText}
+use Rattle.commands.specs.Commands.{violatedWord, smallerWord, stableWord, checkedLine, checkText, lentList, searchText, workSlice, fixedText, fixpointText}
+use Rattle.commands.specs.Commands.{summaryLines, summarizedText, allowance, lent, summaryText}
 
 -- ---- the line of a refusal, of a word and a number
 pub refused-fits : (n : ℕ) (xs : List ℕ) → n < 2 ^ 8 → mostBytes ≤ length xs → length (refusedLine n) ≤ length xs
 refused-fits n xs h r = omega (arith, refused-most n (omega arith))
 
 pub numbered-fits : (w : List ℕ) (v : ℕ) (xs : List ℕ) → v < 2 ^ 32 → length w ≤ 20 → mostBytes ≤ length xs → length (numbered w v) ≤ length xs
-numbered-fits w v xs h s r = omega (arith, numbered-most w v s (omega arith))
+numbered-fits w v xs h s r = omega (arith, numbered-most w v (omega arith))
 
 -- ---- the names line and the lines of the models
 module _ (p : Program) (xs : List ℕ) (s : Ready p xs) where
-  pub some-names : 1 ≤ p .«atom_count»
+  some-names : 1 ≤ p .«atom_count»
   some-names = valid-names p (s .read) .one-up
 
-  pub few-names : p .«atom_count» ≤ 12
+  few-names : p .«atom_count» ≤ 12
   few-names = valid-names p (s .read) .few
 
 module _ (p : Program) (ws xs : List ℕ) where
   abbrev pub modelsText : List ℕ
-  modelsText = shown (p .«atom_names») (p .«atom_count») ws (length ws)
+  modelsText = namesLine (tabulate (nameAt (p .«atom_names»)) (p .«atom_count»)) ++ modelLines (p .«atom_count») (take (length ws) ws)
 
   models-are : modelsText ≡ listing p ws
-  models-are = shown-is p ws (length ws) ∙ ap (listing p) (take-all (length ws) ws (omega arith))
+  models-are = listing-is p ws (length ws) ∙ ap (listing p) (take-all (length ws) ws (omega arith))
 
-  models-short : Lent p ws xs → length modelsText ≤ 102509
-  models-short s = shown-most (p .«atom_names») (p .«atom_count») ws (length ws) (few-names p xs (s .ready)) (s .short)
+  models-most : Lent p ws xs → length modelsText ≤ 98412
+  models-most s =
+      let h = s .short in
+      omega (arith, listing-most (p .«atom_names») (p .«atom_count») ws (length ws) (some-names p xs (s .ready)) (few-names p xs (s .ready)))
 
-  pub models-fit : Lent p ws xs → length modelsText ≤ length xs
-  models-fit s = let r = s .ready .room in omega (arith, models-short s)
+  pub models-fit : Lent p ws xs → Room (p .«atom_count») 12 modelsText xs
+  models-fit s =
+      let r = s .ready .room in
+      record { some = some-names p xs (s .ready); few = few-names p xs (s .ready); room = omega (arith, models-most s) }
 
   pub models-wrote : (r : ℕ) (ys : List ℕ) → Wrote modelsText xs r ys → Wrote (listing p ws) xs r ys
   models-wrote r ys w = rw (← models-are) w
 
   -- a line behind them, for which 64 bytes are room enough
   module _ (s : Lent p ws xs) (a : ℕ) (ys : List ℕ) (w : Wrote (listing p ws) xs a ys) where
-    at-most : a ≤ 102509
-    at-most = omega (arith, w .size, ap length models-are, models-short s)
+    at-most : a ≤ 98412
+    at-most = omega (arith, w .size, ap length models-are, models-most s)
 
     long : mostBytes ≤ length ys
     long =
@@ -92,20 +99,16 @@ module _ (p : Program) (ws xs : List ℕ) where
     pub behind-fits : (u : List ℕ) → length u ≤ 64 → length u ≤ length (take (length ys - a) (drop a ys))
     behind-fits u h = simp (length-take, length-drop) (omega (arith, at-most, long))
 
-    module _ (u : List ℕ) (b : ℕ) (vs : List ℕ) (x : Wrote u (take (length ys - a) (drop a ys)) b vs) (h : length u ≤ 64) where
-      pub behind-wrote : Wrote (listing p ws ++ u) xs (a + b) (back ys a vs)
-      behind-wrote =
-          let r = s .ready .room in
-          two-texts xs (listing p ws) u a b ys vs (omega (arith, length-append (listing p ws) u, at-most, w .size)) w x
+    pub behind-small : (b : ℕ) (u zs vs : List ℕ) → Wrote u zs b vs → length u ≤ 64 → a + b < 2 ^ 64
+    behind-small b u zs vs x h = omega (arith, at-most, x .size)
 
-    pub last-small : (o : Outcome) (m v : ℕ) → m < 2 ^ 64 → v < 2 ^ 64 → (zs : List ℕ) (b : ℕ) (vs : List ℕ) → Wrote (lastLine o m v) zs b vs → a + b < 2 ^ 64
-    last-small o m v h k zs b vs x = omega (arith, at-most, x .size, last-most o m v h k)
+    pub behind-wrote : (u : List ℕ) (b : ℕ) (vs : List ℕ) → Wrote u (take (length ys - a) (drop a ys)) b vs → length u ≤ 64 → Wrote (listing p ws ++ u) xs (a + b) (back ys a vs)
+    behind-wrote u b vs x h =
+        let r = s .ready .room in
+        two-texts xs (listing p ws) u a b ys vs (omega (arith, length-append (listing p ws) u, at-most, w .size)) w x
 
-    pub outcome-small : (o : Outcome) (m : ℕ) → m < 2 ^ 64 → (zs : List ℕ) (b : ℕ) (vs : List ℕ) → Wrote (numbered (outcomeWord o) m) zs b vs → a + b < 2 ^ 64
-    outcome-small o m h zs b vs x = omega (arith, at-most, x .size, numbered-most (outcomeWord o) m (word-most o) h)
-
-pub outcome-most : (o : Outcome) (m : ℕ) → m < 2 ^ 64 → length (numbered (outcomeWord o) m) ≤ 64
-outcome-most o m h = numbered-most (outcomeWord o) m (word-most o) h
+pub ended-most : (o : Outcome) (m : ℕ) → m < 2 ^ 64 → length (numbered (outcomeWord o) m) ≤ 64
+ended-most o m h = omega (arith, numbered-most (outcomeWord o) m h, outcome-most o)
 
 -- ---- the check
 module _ (p : Program) (w : ℕ) (c : Checked) (s : Checks p w c) (xs : List ℕ) (r : ℕ) (ys : List ℕ) where
@@ -133,14 +136,13 @@ module _ (p : Program) (w : ℕ) (c : Checked) (s : Checks p w c) (xs : List ℕ
 -- no more words are written than there are places
 run-fits : (hit : Node → Bool) (ns : List Node) (A L : ℕ) → runAnswer hit ns A L .written ≤ L
 unfolding runAnswer overfull
-run-fits hit ns A L = go (ltb L (length (hits hit (take A ns)))) refl (ltb A (length ns))
+run-fits hit ns A L = go (length (hits hit (take A ns))) (ltb L (length (hits hit (take A ns)))) refl (ltb A (length ns))
   where
-    go : (b : Bool) → ltb L (length (hits hit (take A ns))) ≡ b → (c : Bool)
-        → (cond b (answer outcome.Full L (fullAt hit ns L)) (cond c (answer outcome.Spent (length (hits hit (take A ns))) A) (answer outcome.Complete (length (hits hit (take A ns))) (length ns)))) .written
-        ≤ L
-    go true e c = let q : L ≤ L = omega arith in q
-    go false e true = ltb-false _ _ e
-    go false e false = ltb-false _ _ e
+    go : (f : ℕ) (b : Bool) → ltb L f ≡ b → (c : Bool)
+        → (cond b (answer outcome.Full L (fullAt hit ns L)) (cond c (answer outcome.Spent f A) (answer outcome.Complete f (length ns)))) .written ≤ L
+    go f true e c = let q : L ≤ L = omega arith in q
+    go f false e true = ltb-false _ _ e
+    go f false e false = ltb-false _ _ e
 
 module _ (p : Program) (xs : List ℕ) (q : Ready p xs) (A : ℕ) (l : List ℕ) (a : SearchAnswer) (ms : List ℕ) (s : Searches p A l a ms) where
   places : a .written ≤ length l
@@ -181,7 +183,8 @@ module _ (r k n : ℕ) (e : r ≡ min k n) where
 pub cut-lent : (p : Program) (xs : List ℕ) (r k : ℕ) → Ready p xs → r ≡ min k 4096 → Lent p (take r (zeros 4096)) xs
 cut-lent p xs r k s e = record { ready = s; short = omega (arith, cut-long r k 4096 e) }
 
-pub search-cut : (A k r : ℕ) (p : Program) (xs : List ℕ) (m : ℕ) (ys : List ℕ) → r ≡ min k 4096 → Wrote (searchText A (take r (zeros 4096)) p) xs m ys → Wrote (searchText A (lentList k) p) xs m ys
+pub search-cut : (A k r : ℕ) (p : Program) (xs : List ℕ) (m : ℕ) (ys : List ℕ) → r ≡ min k 4096
+    → Wrote (searchText A (take r (zeros 4096)) p) xs m ys → Wrote (searchText A (lentList k) p) xs m ys
 search-cut A k r p xs m ys e w = subst (λ (l : List ℕ). Wrote (searchText A l p) xs m ys) (cut-zeros r k 4096 e) w
 
 pub fixpoint-cut : (k j r q : ℕ) (p : Program) (xs : List ℕ) (m : ℕ) (ys : List ℕ) → r ≡ min k 4096 → q ≡ min j 65536
@@ -247,10 +250,14 @@ module _ (p : Program) (l w v : List ℕ) (a : FixpointAnswer) (ms w′ v′ : L
 -- ---- the summary
 module _ (p : Program) (s : Summary) (xs : List ℕ) where
   abbrev pub summedText : List ℕ
-  summedText = linesText (p .«atom_names») (p .«atom_count») (s .occurring) (s .settled)
+  summedText = namesLine (tabulate (nameAt (p .«atom_names»)) (p .«atom_count»)) ++ (fourLines (s .occurring) (p .«atom_count») ++ flagsLine (s .settled) (p .«atom_count»))
 
-  pub summary-fits : Ready p xs → length summedText ≤ length xs
-  summary-fits q = lines-room (p .«atom_names») (p .«atom_count») (s .occurring) (s .settled) xs (few-names p xs q) (q .room)
+  pub summary-fits : Ready p xs → Room (p .«atom_count») 12 summedText xs
+  summary-fits q =
+      let r = q .room in
+      let o = some-names p xs q in
+      let f = few-names p xs q in
+      record { some = o; few = f; room = omega (arith, summary-most (p .«atom_count») o f (p .«atom_names») (s .occurring) (s .settled)) }
 
   pub lines-wrote : (r : ℕ) (ys : List ℕ) → Wrote summedText xs r ys → Wrote (summaryLines p s) xs r ys
   unfolding summaryLines namesOf

@@ -14,7 +14,7 @@ use Rattle.program.specs.declared.Verdict.the-variants as verdict
 use Rattle.program.specs.Valid.{valid}
 use Rattle.text.specs.Reading.{readOf}
 use Rattle.text.specs.Render.{render}
-use Rattle.reporting.specs.Lines.{refusedLine}
+use Rattle.lines.specs.Printed.{refusedLine}
 
 -- "If refused it prints only one such line": the text t where the verdict, or the outcome, is no refusal
 unfoldable pub unlessRefused : Verdict → List ℕ → List ℕ

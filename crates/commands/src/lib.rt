@@ -5,7 +5,7 @@ ghost use Prim.Native.Nat.{_≤_, min};
 ghost use lib.ListN.{length};
 ghost use Rattle.lists.specs.Bytes.{Wrote};
 ghost use Rattle.text.specs.Render.{render};
-ghost use Rattle.reporting.specs.Lines.{outcomeWord, numbered, refusedLine, listing, lastLine};
+ghost use Rattle.lines.specs.Printed.{outcomeWord, numbered, refusedLine, listing, lastLine};
 ghost use Rattle.commands.specs.Printing.{mostBytes, Ready, Lent, Prints};
 ghost use Rattle.commands.specs.Commands.{checkText, lentList, searchText, workSlice, fixedText, fixpointText, summaryLines, summarizedText, summaryText, textOf, output, reportOf};
 use program::Outcome;
@@ -46,7 +46,7 @@ fn put_refused(number: u8, out: &mut [u8]) -> usize
     requires { ⌜ mostBytes ≤ length (now out) ⌝ }
     ensures { λ r. ⌜ Wrote (refusedLine number) (now (out .entry)) r (now (out .exit)) ⌝ }
 {
-    reporting::put_refused_line(out, number as u64)
+    lines::put_refused_line(out, number as u64)
 }
 
 // The names line, and a line for each of the words, which are at most `MOST_PLACES`.
@@ -57,7 +57,7 @@ fn put_models(p: Program, words: &[u32], out: &mut [u8]) -> usize
     let n = p.atom_count;
     let names = p.atom_names;
     let m = words.len();
-    reporting::put_listing(out, &names, n, words, m)
+    lines::put_listing(out, &names, n, words, m)
 }
 
 // ---- check
@@ -65,7 +65,7 @@ fn put_found(word: &[u8], v: u32, out: &mut [u8]) -> usize
     requires { ⌜ (length (now word) ≤ 20) × (mostBytes ≤ length (now out)) ⌝ }
     ensures { λ r. ⌜ Wrote (numbered (now (word .entry)) v) (now (out .entry)) r (now (out .exit)) ⌝ }
 {
-    reporting::put_numbered(out, word, v as u64)
+    lines::put_numbered_line(out, word, v as u64)
 }
 
 fn put_check(p: Program, word: u32, out: &mut [u8]) -> usize
@@ -95,7 +95,7 @@ fn put_searched(
     ensures { λ r. ⌜ Wrote (listing p (now (words .entry)) ++ lastLine outcome m v) (now (out .entry)) r (now (out .exit)) ⌝ }
 {
     let a = put_models(p, words, out);
-    let b = reporting::put_last_line(&mut out[a..], outcome, m as u64, v);
+    let b = lines::put_last_line(&mut out[a..], outcome, m as u64, v);
     a + b
 }
 
@@ -127,7 +127,7 @@ fn put_ended(p: Program, words: &[u32], outcome: Outcome, m: usize, out: &mut [u
     ensures { λ r. ⌜ Wrote (listing p (now (words .entry)) ++ numbered (outcomeWord outcome) m) (now (out .entry)) r (now (out .exit)) ⌝ }
 {
     let a = put_models(p, words, out);
-    let b = reporting::put_outcome(&mut out[a..], outcome, m as u64);
+    let b = lines::put_outcome_line(&mut out[a..], outcome, m as u64);
     a + b
 }
 
@@ -185,7 +185,7 @@ fn put_lines(p: Program, s: Summary, out: &mut [u8]) -> usize
     let names = p.atom_names;
     let shown = s.occurring;
     let flags = s.settled;
-    showing::put_lines(out, &names, n, &shown, &flags)
+    lines::put_summary(out, &names, n, &shown, &flags)
 }
 
 // The summary of the words.

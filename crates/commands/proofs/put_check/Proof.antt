@@ -1,5 +1,6 @@
 -- `commands::put_check` meets its contract: one law for each answer of the check. Assumes nothing.
-use Rattle.commands.proofs.Rules.{words}
+use borrow.Author.Needs.{needs}
+use Rattle.commands.proofs.Rules.{checks}
 use Rattle.commands.proofs.put_check.Statement.{statement}
 use Rattle.commands.proofs.put_check.Tie as tie
 
@@ -7,6 +8,6 @@ pub put-check-spec : {M : Type 1} → statement M
 put-check-spec =
     tie.close
     (tie.spec
-    (λ c. search words) (λ c. search words) (λ c. search words) (λ c. search words) (λ c. search words) (λ c. search words) (λ c. search words) (λ c. search words) (λ c. search words)
-    (λ c. search words) (λ c. search words) (λ c. search words) (λ c. search words) (λ c. search words) (λ c. search words) (λ c. search words) (λ c. search words) (λ c. search words)
-    (λ c. search words) (λ c. search words))
+    (λ c. search needs) (λ c. search needs) (λ c. search needs) (λ c. search needs) (λ c. search needs) (λ c. search needs) (λ c. search needs) (λ c. search needs) (λ c. search needs)
+    (λ c. search needs) (λ c. search needs) (λ c. search needs) (λ c. search needs) (λ c. search checks) (λ c. search needs) (λ c. search checks) (λ c. search needs)
+    (λ c. search checks) (λ c. search needs) (λ c. search checks))

@@ -1,5 +1,6 @@
 -- `commands::put_fixpoint` meets its contract: the lent slices are zeros, as many as are asked for, up to the limits. Assumes nothing.
-use Rattle.commands.proofs.Rules.{words}
+use borrow.Author.Needs.{needs}
+use Rattle.commands.proofs.Rules.{fixes}
 use Rattle.commands.proofs.put_fixpoint.Statement.{statement}
 use Rattle.commands.proofs.put_fixpoint.Tie as tie
 
@@ -7,5 +8,5 @@ pub put-fixpoint-spec : {M : Type 1} → statement M
 put-fixpoint-spec =
     tie.close
     (tie.spec
-    (λ c. search words) (λ c. search words) (λ c. search words) (λ c. search words) (λ c. search words) (λ c. search words) (λ c. search words) (λ c. search words) (λ c. search words)
-    (λ c. search words) (λ c. search words))
+    (λ c. search needs) (λ c. search needs) (λ c. search needs) (λ c. search fixes) (λ c. search needs) (λ c. search fixes) (λ c. search needs) (λ c. search fixes) (λ c. search fixes)
+    (λ c. search needs) (λ c. search fixes))

@@ -1,5 +1,6 @@
 -- `commands::put_summarized` meets its contract: one law for each verdict of the summary. Assumes nothing.
-use Rattle.commands.proofs.Rules.{words}
+use borrow.Author.Needs.{needs}
+use Rattle.commands.proofs.Rules.{sums}
 use Rattle.commands.proofs.put_summarized.Statement.{statement}
 use Rattle.commands.proofs.put_summarized.Tie as tie
 
@@ -7,4 +8,4 @@ pub put-summarized-spec : {M : Type 1} → statement M
 put-summarized-spec =
     tie.close
     (tie.spec
-    (λ c. search words) (λ c. search words) (λ c. search words) (λ c. search words) (λ c. search words) (λ c. search words) (λ c. search words) (λ c. search words) (λ c. search words))
+    (λ c. search needs) (λ c. search needs) (λ c. search sums) (λ c. search needs) (λ c. search sums) (λ c. search needs) (λ c. search sums) (λ c. search needs) (λ c. search sums))

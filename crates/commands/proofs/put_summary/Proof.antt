@@ -1,7 +1,8 @@
 -- `commands::put_summary` meets its contract: the summary is of the words that the search wrote. Assumes nothing.
-use Rattle.commands.proofs.Rules.{words}
+use borrow.Author.Needs.{needs}
+use Rattle.commands.proofs.Rules.{sums}
 use Rattle.commands.proofs.put_summary.Statement.{statement}
 use Rattle.commands.proofs.put_summary.Tie as tie
 
 pub put-summary-spec : {M : Type 1} → statement M
-put-summary-spec = tie.close (tie.spec (λ c. search words) (λ c. search words) (λ c. search words) (λ c. search words) (λ c. search words) (λ c. search words) (λ c. search words))
+put-summary-spec = tie.close (tie.spec (λ c. search needs) (λ c. search needs) (λ c. search sums) (λ c. search sums) (λ c. search sums) (λ c. search needs) (λ c. search sums))
