@@ -1,3 +1,3 @@
--- The laws of the writer's loops.
-pub mod Lines
+-- The laws of the writer.
+pub mod Texts
 pub mod Rules

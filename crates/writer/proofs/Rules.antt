@@ -1,49 +1,11 @@
--- What `search` is handed at the writer's needs. Assumes nothing.
+-- What `search` is handed at the writer's needs, by the kind of function. Assumes nothing.
 use borrow.Author.Needs.{needs}
-use Rattle.sets.proofs.Tests.{via, via-true, via-false}
-use Rattle.writer.proofs.Lines.{names-line, values-line, clause-line, lined-start, lined-from, lined-room, lined-at, lined-small, lined-next, lined-done, measure-start, measure-more, measure-done, spans-value, value-wrote, value-room, name-spans, name-fits, name-wrote, name-room, valued-start, valued-more, valued-done, clause-wrote, clause-room, sum-start, sum-more, sum-done, list-start, list-from, list-room, list-small, list-more, list-done, text-wrote, writes9, writes13, writes}
+use Rattle.sets.proofs.Tests.{via-true, via-false}
+use Rattle.lines.proofs.Rules.{laying}
+use Rattle.writer.proofs.Texts.{clauses-laid, rows-few, text-room, own-room, writes9, writes13, writes}
 
-pub ruleset rules = (
-  names-line,
-  values-line,
-  clause-line,
-  lined-start,
-  lined-from,
-  lined-room,
-  lined-at,
-  lined-small,
-  lined-next,
-  lined-done,
-  measure-start,
-  measure-more,
-  measure-done,
-  spans-value,
-  value-wrote,
-  value-room,
-  name-spans,
-  name-fits,
-  name-wrote,
-  name-room,
-  valued-start,
-  valued-more,
-  valued-done,
-  clause-wrote,
-  clause-room,
-  sum-start,
-  sum-more,
-  sum-done,
-  list-start,
-  list-from,
-  list-room,
-  list-small,
-  list-more,
-  list-done,
-  text-wrote,
-  writes9,
-  writes13,
-  writes,
-  via,
-  via-true,
-  via-false,
-  needs,
-)
+-- the lines of the clauses, each placed behind the last
+pub ruleset placing = (clauses-laid, laying)
+
+-- the writer's answers
+pub ruleset answers = (via-true, via-false, rows-few, text-room, own-room, writes9, writes13, writes, needs)

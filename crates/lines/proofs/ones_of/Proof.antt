@@ -14,4 +14,6 @@ abbrev μ-loop : tie.MeasureT-loop
 
 pub ones-of-spec : {M : Type 1} → statement M
 unfolding flagAt
-ones-of-spec = tie.close (tie.spec Inv-loop μ-loop (λ c. search filling) (λ c. search filling) (λ c. search filling) (λ c. search filling) (λ c. search filling) (λ c. search filling) (λ c. search filling) (λ c. search filling) (λ c. search filling))
+ones-of-spec = tie.close (tie.spec
+    Inv-loop μ-loop (λ c. search filling) (λ c. search filling) (λ c. search filling) (λ c. search filling) (λ c. search filling)
+    (λ c. search filling) (λ c. search filling) (λ c. search filling) (λ c. search filling))

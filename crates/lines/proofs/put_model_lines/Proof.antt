@@ -14,4 +14,7 @@ abbrev μ-loop : tie.MeasureT-loop
 μ-loop out₀ models m n at₀ k₀ out at k = m - k
 
 pub put-model-lines-spec : {M : Type 1} → statement M
-put-model-lines-spec = tie.close (tie.spec Inv-loop μ-loop (λ c. search laying) (λ c. search laying) (λ c. search laying) (λ c. search laying) (λ c. search laying) (λ c. search laying) (λ c. search laying) (λ c. search laying) (λ c. search laying) (λ c. search laying) (λ c. search laying) (λ c. search laying) (λ c. search laying))
+put-model-lines-spec = tie.close (tie.spec
+    Inv-loop μ-loop (λ c. search laying) (λ c. search laying) (λ c. search laying) (λ c. search laying) (λ c. search laying) (λ c. search laying)
+    (λ c. search laying) (λ c. search laying) (λ c. search laying) (λ c. search laying) (λ c. search laying) (λ c. search laying)
+    (λ c. search laying))

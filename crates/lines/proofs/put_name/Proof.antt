@@ -4,4 +4,6 @@ use Rattle.lines.proofs.put_name.Statement.{statement}
 use Rattle.lines.proofs.put_name.Tie as tie
 
 pub put-name-spec : {M : Type 1} → statement M
-put-name-spec = tie.close (tie.spec (λ c. search naming) (λ c. search naming) (λ c. search naming) (λ c. search naming) (λ c. search naming) (λ c. search naming) (λ c. search naming) (λ c. search naming) (λ c. search naming))
+put-name-spec = tie.close (tie.spec
+    (λ c. search naming) (λ c. search naming) (λ c. search naming) (λ c. search naming) (λ c. search naming) (λ c. search naming) (λ c. search naming)
+    (λ c. search naming) (λ c. search naming))

@@ -19,4 +19,6 @@ put-name-item-requires : tie.Need-put-name-item-requires Inv-loop μ-loop
 put-name-item-requires c κs = (search laying, search laying)
 
 pub put-names-line-spec : {M : Type 1} → statement M
-put-names-line-spec = tie.close (tie.spec Inv-loop μ-loop (λ c. search laying) (λ c. search laying) (λ c. search laying) (λ c. search laying) put-name-item-requires (λ c. search laying) (λ c. search laying) (λ c. search laying) (λ c. search laying) (λ c. search laying) (λ c. search laying))
+put-names-line-spec = tie.close (tie.spec
+    Inv-loop μ-loop (λ c. search laying) (λ c. search laying) (λ c. search laying) (λ c. search laying) put-name-item-requires (λ c. search laying)
+    (λ c. search laying) (λ c. search laying) (λ c. search laying) (λ c. search laying) (λ c. search laying))

@@ -6,4 +6,8 @@ use Rattle.lines.proofs.put_outcome.Tie as tie
 
 pub put-outcome-spec : {M : Type 1} → statement M
 unfolding outcomeWord refusedWord
-put-outcome-spec = tie.close (tie.spec (λ c. search wording) (λ c. search wording) (λ c. search wording) (λ c. search wording) (λ c. search wording) (λ c. search wording) (λ c. search wording) (λ c. search wording) (λ c. search wording) (λ c. search wording) (λ c. search wording) (λ c. search wording) (λ c. search wording) (λ c. search wording) (λ c. search wording) (λ c. search wording) (λ c. search wording) (λ c. search wording) (λ c. search wording) (λ c. search wording))
+put-outcome-spec = tie.close (tie.spec
+    (λ c. search wording) (λ c. search wording) (λ c. search wording) (λ c. search wording) (λ c. search wording) (λ c. search wording)
+    (λ c. search wording) (λ c. search wording) (λ c. search wording) (λ c. search wording) (λ c. search wording) (λ c. search wording)
+    (λ c. search wording) (λ c. search wording) (λ c. search wording) (λ c. search wording) (λ c. search wording) (λ c. search wording)
+    (λ c. search wording) (λ c. search wording))

@@ -18,4 +18,6 @@ put-number-item-requires : tie.Need-put-number-item-requires Inv-loop μ-loop
 put-number-item-requires c κs = (search laying, search laying)
 
 pub put-values-line-spec : {M : Type 1} → statement M
-put-values-line-spec = tie.close (tie.spec Inv-loop μ-loop (λ c. search laying) (λ c. search laying) (λ c. search laying) (λ c. search laying) put-number-item-requires (λ c. search laying) (λ c. search laying) (λ c. search laying) (λ c. search laying) (λ c. search laying) (λ c. search laying))
+put-values-line-spec = tie.close (tie.spec
+    Inv-loop μ-loop (λ c. search laying) (λ c. search laying) (λ c. search laying) (λ c. search laying) put-number-item-requires (λ c. search laying)
+    (λ c. search laying) (λ c. search laying) (λ c. search laying) (λ c. search laying) (λ c. search laying))

@@ -13,4 +13,6 @@ add-result c =
     both-fits _ _ _ _ _ _ _ (at-first .put-word .ensures) (at-start .pre) _ _ (at-second .put-values-line .ensures) (omega arith)
 
 pub put-worded-line-spec : {M : Type 1} → statement M
-put-worded-line-spec = tie.close (tie.spec (λ c. search behind) (λ c. search behind) (λ c. search behind) (λ c. search behind) (λ c. search behind) add-result (λ c. search behind) (λ c. search behind))
+put-worded-line-spec = tie.close (tie.spec
+    (λ c. search behind) (λ c. search behind) (λ c. search behind) (λ c. search behind) (λ c. search behind) add-result (λ c. search behind)
+    (λ c. search behind))

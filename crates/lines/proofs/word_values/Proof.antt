@@ -13,4 +13,6 @@ abbrev μ-loop : tie.MeasureT-loop
 μ-loop w out₀ i₀ out i = 12 - i
 
 pub word-values-spec : {M : Type 1} → statement M
-word-values-spec = tie.close (tie.spec Inv-loop μ-loop (λ c. search filling) (λ c. search filling) (λ c. search filling) (λ c. search filling) (λ c. search filling) (λ c. search filling) (λ c. search filling) (λ c. search filling))
+word-values-spec = tie.close (tie.spec
+    Inv-loop μ-loop (λ c. search filling) (λ c. search filling) (λ c. search filling) (λ c. search filling) (λ c. search filling)
+    (λ c. search filling) (λ c. search filling) (λ c. search filling))

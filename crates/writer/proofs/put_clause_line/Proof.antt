@@ -1,7 +1,9 @@
--- `writer::put_clause_line` meets its contract. Assumes nothing.
-use Rattle.writer.proofs.Rules.{rules}
+-- `writer::put_clause_line`: the line is that of the first values of the array that was filled. Assumes nothing.
+use Rattle.program.specs.Values.{clauseValues}
+use Rattle.lines.proofs.Rules.{rows}
 use Rattle.writer.proofs.put_clause_line.Statement.{statement}
 use Rattle.writer.proofs.put_clause_line.Tie as tie
 
 pub put-clause-line-spec : {M : Type 1} → statement M
-put-clause-line-spec = tie.close (tie.spec (λ c. search rules) (λ c. search rules) (λ c. search rules) (λ c. search rules))
+unfolding clauseValues
+put-clause-line-spec = tie.close (tie.spec (λ c. search rows) (λ c. search rows) (λ c. search rows) (λ c. search rows) (λ c. search rows))

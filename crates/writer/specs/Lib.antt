@@ -1,2 +1,0 @@
--- What the writer's routines answer.
-pub mod Lines
