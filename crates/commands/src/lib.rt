@@ -61,6 +61,7 @@ fn put_models(p: Program, words: &[u32], out: &mut [u8]) -> usize
 }
 
 // ---- check
+// A word for what the check found, and its number.
 fn put_found(word: &[u8], v: u32, out: &mut [u8]) -> usize
     requires { ⌜ (length (now word) ≤ 20) × (mostBytes ≤ length (now out)) ⌝ }
     ensures { λ r. ⌜ Wrote (numbered (now (word .entry)) v) (now (out .entry)) r (now (out .exit)) ⌝ }
@@ -131,6 +132,7 @@ fn put_ended(p: Program, words: &[u32], outcome: Outcome, m: usize, out: &mut [u
     a + b
 }
 
+// The line of a refusal, or the models and the line of the outcome.
 fn put_fixed(p: Program, words: &[u32], outcome: Outcome, m: usize, out: &mut [u8]) -> usize
     requires { ⌜ Lent p (now words) (now out) ⌝ }
     ensures { λ r. ⌜ Wrote (fixedText p (now (words .entry)) outcome m) (now (out .entry)) r (now (out .exit)) ⌝ }
