@@ -1,7 +1,9 @@
 -- What `search` is handed at the needs of this crate, by the kind of function. Assumes nothing.
 use borrow.Author.Needs.{needs}
 use Rattle.lists.proofs.Filling.{fill-start, fill-more, fill-done}
-use Rattle.lines.proofs.Laying.{laid-start, laid-from, laid-room, laid-fits, laid-more, laid-done, names-laid, values-laid, models-laid, numbered-room, numbered-wrote, last-room, last-wrote, outcome-room, outcome-wrote, between, behind-last, byte-fits, byte-at, byte-wrote, first-fits, first-room, second-from, second-room, both-fits, both-wrote, row-room, row-wrote}
+use Rattle.lines.proofs.Laying.{laid-start, laid-from, laid-room, laid-fits, laid-more, laid-done, names-laid, values-laid, models-laid}
+use Rattle.lines.proofs.Laying.{numbered-room, numbered-wrote, last-room, last-wrote, outcome-room, outcome-wrote, row-room, row-wrote}
+use Rattle.lines.proofs.Laying.{between, behind-last, byte-fits, byte-at, byte-wrote, first-fits, first-room, second-from, second-room, both-fits, both-wrote}
 use Rattle.lines.proofs.Names.{name-spans, name-room, name-wrote}
 
 -- a name in its place

@@ -40,6 +40,7 @@ fn name_length(names: &[u8; 96], i: usize) -> usize
     lists::end_of(&all[a..e], 0, 0)
 }
 
+// The name in place `i` at the front of `out`.
 fn put_name(out: &mut [u8], names: &[u8; 96], i: usize) -> usize
     requires { ⌜ (i < 12) × (length (nameAt (now names) i) ≤ length (now out)) ⌝ }
     ensures { λ r. ⌜ Wrote (nameAt (now (names .entry)) i) (now (out .entry)) r (now (out .exit)) ⌝ }
@@ -51,6 +52,7 @@ fn put_name(out: &mut [u8], names: &[u8; 96], i: usize) -> usize
     lists::put_bytes(out, &all[a..e])
 }
 
+// The name in place `i`, the item `i` of `n` on its line, and what stands behind it.
 fn put_name_item(out: &mut [u8], names: &[u8; 96], i: usize, n: usize) -> usize
     requires { ⌜ (i < 12) × (length (item (nameAt (now names)) n i) ≤ length (now out)) ⌝ }
     ensures { λ r. ⌜ Wrote (item (nameAt (now (names .entry))) n i) (now (out .entry)) r (now (out .exit)) ⌝ }
@@ -60,6 +62,7 @@ fn put_name_item(out: &mut [u8], names: &[u8; 96], i: usize, n: usize) -> usize
     k + 1
 }
 
+// The value in place `i`, the item `i` of `n` on its line, and what stands behind it.
 fn put_number_item(out: &mut [u8], values: &[u64], i: usize, n: usize) -> usize
     requires { ⌜ (i < length (now values)) × (length (item (numberAt (now values)) n i) ≤ length (now out)) ⌝ }
     ensures { λ r. ⌜ Wrote (item (numberAt (now (values .entry))) n i) (now (out .entry)) r (now (out .exit)) ⌝ }
@@ -170,24 +173,20 @@ pub fn put_last_line(out: &mut [u8], outcome: Outcome, m: u64, v: u64) -> usize
 }
 
 // ---- the lines of models
-fn value_of(w: u32, i: usize) -> u64
-    ensures { λ r. ⌜ r ≡ valueIn w i ⌝ }
-{
-    program::value_in(w, i) as u64
-}
-
+// The values of a word.
 fn word_values(w: u32) -> [u64; 12]
     ensures { λ r. ⌜ r ≡ tabulate (valueIn w) 12 ⌝ }
 {
     let mut out = [0u64; 12];
     let mut i: usize = 0;
     while i < 12 {
-        out[i] = value_of(w, i);
+        out[i] = program::value_in(w, i) as u64;
         i += 1;
     }
     out
 }
 
+// The line of a model at the front of `out`.
 fn put_model_line(out: &mut [u8], w: u32, n: usize) -> usize
     requires { ⌜ Room n 12 (valuesLine (wordValues n w)) (now out) ⌝ }
     ensures { λ r. ⌜ Wrote (valuesLine (wordValues n w)) (now (out .entry)) r (now (out .exit)) ⌝ }
@@ -222,6 +221,7 @@ pub fn put_listing(out: &mut [u8], names: &[u8; 96], n: usize, models: &[u32], m
 }
 
 // ---- the lines of a summary
+// The bit of `x` that counts `k`.
 fn bit_of(x: u8, k: u64) -> u64
     requires { ⌜ 1 ≤ k ⌝ }
     ensures { λ r. ⌜ r ≡ x / k % 2 ⌝ }
@@ -249,6 +249,7 @@ fn bits_of(shown: &[u8; 12], k: u64) -> [u64; 12]
     out
 }
 
+// The flags, 1 for true.
 fn ones_of(flags: &[bool; 12]) -> [u64; 12]
     ensures { λ r. ⌜ r ≡ tabulate (flagAt (now (flags .entry))) 12 ⌝ }
 {

@@ -1,5 +1,5 @@
 -- The text of a table: its clauses' lines as pieces, how long it is, and the writer's answers. Assumes nothing.
-use mathlib.Core.Path.{_≡_, refl, ap, _∙_}
+use mathlib.Core.Path.{_≡_, ap, _∙_}
 use mathlib.Core.Bool.{true, false}
 use mathlib.Core.List.{List, map, flatMap}
 use Prim.Native.Nat.{ℕ, _*_, _≤_, _<_}
@@ -58,11 +58,11 @@ module _ (p : Program) (v : valid p ≡ true) where
   pub rows-few : p .«clause_count» ≤ 64
   rows-few = valid-clauses p v .short
 
-  pub text-room : (xs : List ℕ) (size : ℕ) → size ≡ length (render p) → size ≤ length xs → Room (p .«atom_count») 12 (render p) xs
-  text-room xs size q h = let s = valid-names p v in record { some = s .one-up; few = s .few; room = omega arith }
+  pub text-room : (xs : List ℕ) → length (render p) ≤ length xs → Room (p .«atom_count») 12 (render p) xs
+  text-room xs h = let s = valid-names p v in record { some = s .one-up; few = s .few; room = h }
 
   pub own-room : Room (p .«atom_count») 12 (render p) (replicate 4096 0)
-  own-room = text-room (replicate 4096 0) _ refl (omega (arith, text-most, length-replicate {A = ℕ} 4096 0))
+  own-room = text-room (replicate 4096 0) (omega (arith, text-most, length-replicate {A = ℕ} 4096 0))
 
 -- ---- the writer's answer
 module _ (p : Program) (out : List ℕ) where

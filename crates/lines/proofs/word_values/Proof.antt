@@ -15,4 +15,4 @@ abbrev μ-loop : tie.MeasureT-loop
 pub word-values-spec : {M : Type 1} → statement M
 word-values-spec = tie.close (tie.spec
     Inv-loop μ-loop (λ c. search filling) (λ c. search filling) (λ c. search filling) (λ c. search filling) (λ c. search filling)
-    (λ c. search filling) (λ c. search filling) (λ c. search filling))
+    (λ c. search filling) (λ c. search filling) (λ c. search filling) (λ c. search filling))
