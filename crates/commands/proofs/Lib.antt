@@ -1,4 +1,5 @@
--- The laws of what each word prints, and what follows of it.
-pub mod Laws
-pub mod Rules
+-- The laws of what is printed, and what follows of it.
+pub mod Printing
+pub mod Texts
 pub mod Outputs
+pub mod Rules

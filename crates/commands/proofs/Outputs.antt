@@ -1,35 +1,27 @@
 -- What the words print, seen from outside. Assumes nothing.
-use mathlib.Core.Path.{_≡_, refl, sym, ap, _∙_}
-use mathlib.Core.Logic.{⊎-elim}
+use mathlib.Core.Path.{_≡_, refl}
 use mathlib.Core.List.{List}
 use Prim.Native.Nat.{ℕ}
-use lib.Dec.{eqb}
-use borrow.Author.Tests.{eqb-true}
-use Rattle.sets.proofs.Tests.{dec}
-use Rattle.program.specs.declared.Program.{Program}
 use Rattle.text.specs.Refusals.{refusal}
-use Rattle.text.specs.Reading.{readOf, programOf, IsAccepted}
-use Rattle.text.specs.Render.{render}
-use Rattle.text.proofs.RoundTrip.{cleared, written-back}
-use Rattle.reporting.specs.Lines.{refusedLine}
-use Rattle.reporting.specs.Printing.{unlessRefused, printed}
-use Rattle.reporting.specs.Report.{allowance, reportOf}
-use Rattle.commands.specs.Commands.{searchOutput, writeOutput}
+use Rattle.text.specs.Reading.{readOf, IsAccepted}
+use Rattle.text.proofs.RoundTrip.{refused, written-back}
+use Rattle.lines.specs.Printed.{refusedLine}
+use Rattle.commands.specs.declared.Command.{Command}
+use Rattle.commands.specs.declared.Command.the-variants.{Search, Write}
+use Rattle.commands.specs.Printing.{unlessRefused, printed}
+use Rattle.commands.specs.Commands.{allowance, textOf, output, reportOf}
 
 -- A search with the report's numbers prints the report.
-pub search-is-report : (b : List ℕ) → searchOutput allowance 4096 b ≡ reportOf b
-unfolding searchOutput reportOf
-search-is-report b = refl
+pub search-is-report : (ns bs b : List ℕ) → output (Search allowance 4096) ns bs b ≡ reportOf b
+unfolding output textOf reportOf
+search-is-report ns bs b = refl
 
 -- A book that is taken is written back byte for byte.
-pub write-is-book : (b : List ℕ) → IsAccepted b → writeOutput b ≡ b
-unfolding writeOutput printed unlessRefused readOf
-write-is-book b a =
-    let z : refusal b ≡ 0 = cleared b a in
-    let q : readOf b .program ≡ programOf b = rw z in
-    rw z (ap render (sym q) ∙ written-back b a)
+pub write-is-book : (ns bs b : List ℕ) → IsAccepted b → output Write ns bs b ≡ b
+unfolding output textOf printed unlessRefused
+write-is-book ns bs b a = rw a (written-back b a)
 
 -- Of a refused book every word prints the one line of its refusal.
-pub prints-refusal : (f : Program → List ℕ) (b : List ℕ) → (refusal b ≡ 0 → ⊥) → printed f b ≡ refusedLine (refusal b)
-unfolding printed unlessRefused
-prints-refusal f b n = ⊎-elim (λ t. absurd (n (eqb-true _ _ t))) (λ e. rw e) (dec (eqb (refusal b) 0))
+pub prints-refusal : (k : Command) (ns bs b : List ℕ) → (refusal b ≡ 0 → ⊥) → output k ns bs b ≡ refusedLine (refusal b)
+unfolding output printed unlessRefused
+prints-refusal k ns bs b n = rw (refused b n)

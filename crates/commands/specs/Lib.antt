@@ -1,2 +1,3 @@
--- What each word of the command line prints.
+-- What is printed on a book, by whatever word, and what each word prints.
+pub mod Printing
 pub mod Commands

@@ -1,32 +1,39 @@
-// A call for each word of the command line: it reads the book, and puts its whole output at the front of a lent slice.
+// What is printed on a book: one call for all words of the command line, and what each of them says of the table.
 ghost use mathlib.Core.Path.{_≡_};
-ghost use mathlib.Core.Bool.{true};
 ghost use mathlib.Core.List.{_++_};
 ghost use Prim.Native.Nat.{_≤_, min};
-ghost use lib.ListN.{length, take};
-ghost use Rattle.sets.specs.Lists.{tabulate};
+ghost use lib.ListN.{length};
 ghost use Rattle.lists.specs.Bytes.{Wrote};
-ghost use Rattle.program.specs.Names.{nameAt};
-ghost use Rattle.program.specs.Valid.{valid};
-ghost use Rattle.text.specs.Lines.{namesLine};
 ghost use Rattle.text.specs.Render.{render};
-ghost use Rattle.program.specs.Refusals.{endedBy};
-ghost use Rattle.reporting.specs.Lines.{outcomeWord, numbered, modelLines};
-ghost use Rattle.reporting.specs.Printing.{mostBytes, Prints};
-ghost use Rattle.reporting.specs.Report.{searchText};
-ghost use Rattle.commands.specs.Commands.{checkedLine, checkText, checkOutput, lentList, searchOutput, workSlice, fixpointText, fixpointOutput, summarizedText, summaryText, summaryOutput, writeOutput};
+ghost use Rattle.lines.specs.Printed.{outcomeWord, numbered, refusedLine, listing, lastLine};
+ghost use Rattle.commands.specs.Printing.{mostBytes, Ready, Lent, Prints};
+ghost use Rattle.commands.specs.Commands.{checkText, lentList, searchText, workSlice, fixedText, fixpointText, summaryLines, summarizedText, summaryText, textOf, output, reportOf};
 use program::Outcome;
 use program::Program;
 use program::Verdict;
-use reporting::MOST_BYTES;
-use reporting::NODE_LIMIT;
 use stable::Checked;
+use summary::Summary;
 use text::Written;
+
+// A slice of so many bytes has room for every text that is printed.
+pub const MOST_BYTES: usize = 103_000;
+
+// The report's limit of nodes, which no search of a table that was read exceeds.
+pub const NODE_LIMIT: u64 = 33_554_431;
 
 // The most places of a list, and the most words of a working slice.
 pub const MOST_PLACES: usize = 4096;
 
 pub const MOST_WORDS: usize = 65536;
+
+// A word of the command line, with the numbers behind it.
+pub enum Command {
+    Check(u32),
+    Search(u64, usize),
+    Fixpoint(usize, usize),
+    Summary,
+    Write,
+}
 
 fn least(a: usize, b: usize) -> usize
     ensures { λ r. ⌜ r ≡ min a b ⌝ }
@@ -34,153 +41,135 @@ fn least(a: usize, b: usize) -> usize
     if a < b { a } else { b }
 }
 
-// A line of a word and a number.
-fn put_numbered(out: &mut [u8], word: &[u8], v: u64) -> usize
-    requires { ⌜ length (numbered (now word) v) ≤ length (now out) ⌝ }
-    ensures { λ r. ⌜ Wrote (numbered (now (word .entry)) v) (now (out .entry)) r (now (out .exit)) ⌝ }
+// ---- lines that several words print; `MOST_BYTES` have room for each
+fn put_refused(number: u8, out: &mut [u8]) -> usize
+    requires { ⌜ mostBytes ≤ length (now out) ⌝ }
+    ensures { λ r. ⌜ Wrote (refusedLine number) (now (out .entry)) r (now (out .exit)) ⌝ }
 {
-    let a = lists::put_bytes(out, word);
-    let b = reporting::put_tail(&mut out[a..], v);
-    a + b
+    lines::put_refused_line(out, number as u64)
+}
+
+// The names line, and a line for each of the words, which are at most `MOST_PLACES`.
+fn put_models(p: Program, words: &[u32], out: &mut [u8]) -> usize
+    requires { ⌜ Lent p (now words) (now out) ⌝ }
+    ensures { λ r. ⌜ Wrote (listing p (now (words .entry))) (now (out .entry)) r (now (out .exit)) ⌝ }
+{
+    let n = p.atom_count;
+    let names = p.atom_names;
+    let m = words.len();
+    lines::put_listing(out, &names, n, words, m)
 }
 
 // ---- check
-// The line of the check's answer, for which 64 bytes are room enough.
-fn put_checked(out: &mut [u8], answer: Checked) -> usize
-    requires { ⌜ 64 ≤ length (now out) ⌝ }
-    ensures { λ r. ⌜ Wrote (checkedLine answer) (now (out .entry)) r (now (out .exit)) ⌝ }
+// A word for what the check found, and its number.
+fn put_found(word: &[u8], v: u32, out: &mut [u8]) -> usize
+    requires { ⌜ (length (now word) ≤ 20) × (mostBytes ≤ length (now out)) ⌝ }
+    ensures { λ r. ⌜ Wrote (numbered (now (word .entry)) v) (now (out .entry)) r (now (out .exit)) ⌝ }
 {
+    lines::put_numbered_line(out, word, v as u64)
+}
+
+fn put_check(p: Program, word: u32, out: &mut [u8]) -> usize
+    requires { ⌜ Ready p (now out) ⌝ }
+    ensures { λ r. ⌜ Wrote (checkText word p) (now (out .entry)) r (now (out .exit)) ⌝ }
+{
+    let answer = stable::check(p, word);
     match answer {
-        Checked::Refused(number) => reporting::put_refused_line(out, number as u64),
-        Checked::Violated(k) => put_numbered(out, b"violated", k as u64),
-        Checked::Smaller(j) => put_numbered(out, b"smaller", j as u64),
+        Checked::Refused(number) => put_refused(number, out),
+        Checked::Violated(k) => put_found(b"violated", k, out),
+        Checked::Smaller(j) => put_found(b"smaller", j, out),
         Checked::Stable => lists::put_bytes(out, b"stable\n"),
     }
 }
 
-fn put_check(p: Program, word: u32, out: &mut [u8]) -> usize
-    requires { ⌜ 64 ≤ length (now out) ⌝ }
-    ensures { λ r. ⌜ Wrote (checkText word p) (now (out .entry)) r (now (out .exit)) ⌝ }
-{
-    let answer = stable::check(p, word);
-    put_checked(out, answer)
-}
-
-// `check WORD`: what the check says of the word, or the refusal.
-pub fn check(text: &[u8], word: u32, out: &mut [u8]) -> usize
-    ensures { λ r. ⌜ Prints (checkOutput word (now (text .entry))) (now (out .entry)) r (now (out .exit)) ⌝ }
-{
-    if out.len() < MOST_BYTES {
-        return 0;
-    }
-    let read = reader::read_program(text);
-    let verdict = read.verdict;
-    let program = read.program;
-    match verdict {
-        Verdict::Accepted => put_check(program, word, out),
-        Verdict::Refused(number) => reporting::put_refused_line(out, number as u64),
-    }
-}
-
 // ---- search
+// The models, and the line of an outcome with the models written and the nodes visited.
+fn put_searched(
+    p: Program,
+    words: &[u32],
+    outcome: Outcome,
+    m: usize,
+    v: u64,
+    out: &mut [u8],
+) -> usize
+    requires { ⌜ Lent p (now words) (now out) ⌝ }
+    ensures { λ r. ⌜ Wrote (listing p (now (words .entry)) ++ lastLine outcome m v) (now (out .entry)) r (now (out .exit)) ⌝ }
+{
+    let a = put_models(p, words, out);
+    let b = lines::put_last_line(&mut out[a..], outcome, m as u64, v);
+    a + b
+}
+
+// A search of `p` in the lent list.
+fn put_listed(p: Program, node_limit: u64, models: &mut [u32], out: &mut [u8]) -> usize
+    requires { ⌜ Lent p (now models) (now out) ⌝ }
+    ensures { λ r. ⌜ Wrote (searchText «node_limit» (now (models .entry)) p) (now (out .entry)) r (now (out .exit)) ⌝ }
+{
+    let a = search::search(p, node_limit, models);
+    let m = a.written;
+    let outcome = a.outcome;
+    let v = a.visited;
+    put_searched(p, &models[..m], outcome, m, v, out)
+}
+
 fn put_search(p: Program, node_limit: u64, places: usize, out: &mut [u8]) -> usize
-    requires { ⌜ (valid p ≡ true) × (mostBytes ≤ length (now out)) ⌝ }
+    requires { ⌜ Ready p (now out) ⌝ }
     ensures { λ r. ⌜ Wrote (searchText «node_limit» (lentList places) p) (now (out .entry)) r (now (out .exit)) ⌝ }
 {
     let n = least(places, MOST_PLACES);
-    let mut models = [0u32; 4096];
-    reporting::put_search(p, node_limit, &mut models[..n], out)
-}
-
-// `search LIMIT PLACES`, with more than `MOST_PLACES` as that many: the models that a search finds, its outcome and its counts, or the refusal.
-pub fn search(text: &[u8], node_limit: u64, places: usize, out: &mut [u8]) -> usize
-    ensures { λ r. ⌜ Prints (searchOutput «node_limit» places (now (text .entry))) (now (out .entry)) r (now (out .exit)) ⌝ }
-{
-    if out.len() < MOST_BYTES {
-        return 0;
-    }
-    let read = reader::read_program(text);
-    let verdict = read.verdict;
-    let program = read.program;
-    match verdict {
-        Verdict::Accepted => put_search(program, node_limit, places, out),
-        Verdict::Refused(number) => reporting::put_refused_line(out, number as u64),
-    }
+    let mut models = [0u32; MOST_PLACES];
+    put_listed(p, node_limit, &mut models[..n], out)
 }
 
 // ---- fixpoint
-// The number of an outcome's refusal, 0 for none.
-fn refused_by(outcome: Outcome) -> u8
-    ensures { λ r. ⌜ r ≡ endedBy outcome ⌝ }
+// The models, and the line of an outcome with the models written.
+fn put_ended(p: Program, words: &[u32], outcome: Outcome, m: usize, out: &mut [u8]) -> usize
+    requires { ⌜ Lent p (now words) (now out) ⌝ }
+    ensures { λ r. ⌜ Wrote (listing p (now (words .entry)) ++ numbered (outcomeWord outcome) m) (now (out .entry)) r (now (out .exit)) ⌝ }
+{
+    let a = put_models(p, words, out);
+    let b = lines::put_outcome_line(&mut out[a..], outcome, m as u64);
+    a + b
+}
+
+// The line of a refusal, or the models and the line of the outcome.
+fn put_fixed(p: Program, words: &[u32], outcome: Outcome, m: usize, out: &mut [u8]) -> usize
+    requires { ⌜ Lent p (now words) (now out) ⌝ }
+    ensures { λ r. ⌜ Wrote (fixedText p (now (words .entry)) outcome m) (now (out .entry)) r (now (out .exit)) ⌝ }
 {
     match outcome {
-        Outcome::Complete => 0,
-        Outcome::Full => 0,
-        Outcome::Spent => 0,
-        Outcome::Refused(number) => number,
+        Outcome::Refused(number) => put_refused(number, out),
+        _ => put_ended(p, words, outcome, m, out),
     }
 }
 
-// A line of an outcome and a number.
-fn put_outcome(out: &mut [u8], outcome: Outcome, m: u64) -> usize
-    requires { ⌜ length (numbered (outcomeWord outcome) m) ≤ length (now out) ⌝ }
-    ensures { λ r. ⌜ Wrote (numbered (outcomeWord outcome) m) (now (out .entry)) r (now (out .exit)) ⌝ }
-{
-    let a = reporting::put_word(out, outcome);
-    let b = reporting::put_tail(&mut out[a..], m);
-    a + b
-}
-
-// The names line, the lines of the models and the last line.
-fn put_listed(
-    out: &mut [u8],
-    names: &[u8; 96],
-    n: usize,
-    models: &[u32],
-    m: usize,
-    outcome: Outcome,
-) -> usize
-    requires { ⌜ (1 ≤ n) × (n ≤ 12) × (m ≤ length (now models)) × (length ((namesLine (tabulate (nameAt (now names)) n) ++ modelLines n (take m (now models))) ++ numbered (outcomeWord outcome) m) ≤ length (now out)) ⌝ }
-    ensures { λ r. ⌜ Wrote ((namesLine (tabulate (nameAt (now (names .entry))) n) ++ modelLines n (take m (now (models .entry)))) ++ numbered (outcomeWord outcome) m) (now (out .entry)) r (now (out .exit)) ⌝ }
-{
-    let a = reporting::put_listing(out, names, n, models, m);
-    let b = put_outcome(&mut out[a..], outcome, m as u64);
-    a + b
-}
-
-// A fixpoint of `p` in the lent slices, printed.
-fn put_fixed(
+// A fixpoint of `p` in the lent slices.
+fn put_steps(
     p: Program,
     models: &mut [u32],
     work: &mut [u64],
     more_work: &mut [u64],
     out: &mut [u8],
 ) -> usize
-    requires { ⌜ (valid p ≡ true) × (length (now models) ≤ 4096) × (mostBytes ≤ length (now out)) ⌝ }
+    requires { ⌜ Lent p (now models) (now out) ⌝ }
     ensures { λ r. ⌜ Wrote (fixpointText (now (models .entry)) (now (work .entry)) (now («more_work» .entry)) p) (now (out .entry)) r (now (out .exit)) ⌝ }
 {
     let a = fixpoint::fixpoint(p, models, work, more_work);
     let outcome = a.outcome;
-    let number = refused_by(outcome);
-    if number != 0 {
-        return reporting::put_refused_line(out, number as u64);
-    }
-    let n = p.atom_count;
-    let names = p.atom_names;
     let m = a.written;
-    put_listed(out, &names, n, models, m, outcome)
+    put_fixed(p, &models[..m], outcome, m, out)
 }
 
 fn put_fixpoint(p: Program, places: usize, capacity: usize, out: &mut [u8]) -> usize
-    requires { ⌜ (valid p ≡ true) × (mostBytes ≤ length (now out)) ⌝ }
+    requires { ⌜ Ready p (now out) ⌝ }
     ensures { λ r. ⌜ Wrote (fixpointText (lentList places) (workSlice capacity) (workSlice capacity) p) (now (out .entry)) r (now (out .exit)) ⌝ }
 {
     let n = least(places, MOST_PLACES);
     let c = least(capacity, MOST_WORDS);
-    let mut models = [0u32; 4096];
-    let mut work = [0u64; 65536];
-    let mut more_work = [0u64; 65536];
-    put_fixed(
+    let mut models = [0u32; MOST_PLACES];
+    let mut work = [0u64; MOST_WORDS];
+    let mut more_work = [0u64; MOST_WORDS];
+    put_steps(
         p,
         &mut models[..n],
         &mut work[..c],
@@ -189,70 +178,45 @@ fn put_fixpoint(p: Program, places: usize, capacity: usize, out: &mut [u8]) -> u
     )
 }
 
-// `fixpoint PLACES CAPACITY`, with more than `MOST_PLACES` and `MOST_WORDS` as that many: the models that the fixpoint finds, its outcome and its count, or the refusal.
-pub fn fixpoint(text: &[u8], places: usize, capacity: usize, out: &mut [u8]) -> usize
-    ensures { λ r. ⌜ Prints (fixpointOutput places capacity (now (text .entry))) (now (out .entry)) r (now (out .exit)) ⌝ }
-{
-    if out.len() < MOST_BYTES {
-        return 0;
-    }
-    let read = reader::read_program(text);
-    let verdict = read.verdict;
-    let program = read.program;
-    match verdict {
-        Verdict::Accepted => put_fixpoint(program, places, capacity, out),
-        Verdict::Refused(number) => reporting::put_refused_line(out, number as u64),
-    }
-}
-
 // ---- summary
-// The summary of the words, printed.
-fn put_summarized(p: Program, words: &[u32], out: &mut [u8]) -> usize
-    requires { ⌜ (valid p ≡ true) × (mostBytes ≤ length (now out)) ⌝ }
-    ensures { λ r. ⌜ Wrote (summarizedText (now (words .entry)) p) (now (out .entry)) r (now (out .exit)) ⌝ }
+fn put_lines(p: Program, s: Summary, out: &mut [u8]) -> usize
+    requires { ⌜ Ready p (now out) ⌝ }
+    ensures { λ r. ⌜ Wrote (summaryLines p s) (now (out .entry)) r (now (out .exit)) ⌝ }
 {
-    let s = summary::summarize(p, words);
     let n = p.atom_count;
     let names = p.atom_names;
     let shown = s.occurring;
     let flags = s.settled;
+    lines::put_summary(out, &names, n, &shown, &flags)
+}
+
+// The summary of the words.
+fn put_summarized(p: Program, words: &[u32], out: &mut [u8]) -> usize
+    requires { ⌜ Ready p (now out) ⌝ }
+    ensures { λ r. ⌜ Wrote (summarizedText (now (words .entry)) p) (now (out .entry)) r (now (out .exit)) ⌝ }
+{
+    let s = summary::summarize(p, words);
     let verdict = s.verdict;
     match verdict {
-        Verdict::Accepted => showing::put_lines(out, &names, n, &shown, &flags),
-        Verdict::Refused(number) => reporting::put_refused_line(out, number as u64),
+        Verdict::Accepted => put_lines(p, s, out),
+        Verdict::Refused(number) => put_refused(number, out),
     }
 }
 
 fn put_summary(p: Program, out: &mut [u8]) -> usize
-    requires { ⌜ (valid p ≡ true) × (mostBytes ≤ length (now out)) ⌝ }
+    requires { ⌜ Ready p (now out) ⌝ }
     ensures { λ r. ⌜ Wrote (summaryText p) (now (out .entry)) r (now (out .exit)) ⌝ }
 {
-    let mut models = [0u32; 4096];
+    let mut models = [0u32; MOST_PLACES];
     let a = search::search(p, NODE_LIMIT, &mut models);
     let m = a.written;
     put_summarized(p, &models[..m], out)
 }
 
-// `summary`: which values each name takes in the models that the report lists, and what is settled, or the refusal.
-pub fn summary(text: &[u8], out: &mut [u8]) -> usize
-    ensures { λ r. ⌜ Prints (summaryOutput (now (text .entry))) (now (out .entry)) r (now (out .exit)) ⌝ }
-{
-    if out.len() < MOST_BYTES {
-        return 0;
-    }
-    let read = reader::read_program(text);
-    let verdict = read.verdict;
-    let program = read.program;
-    match verdict {
-        Verdict::Accepted => put_summary(program, out),
-        Verdict::Refused(number) => reporting::put_refused_line(out, number as u64),
-    }
-}
-
 // ---- write
 // The writer's text; with room for it, the writer takes every table that was read.
 fn put_written(p: Program, out: &mut [u8]) -> usize
-    requires { ⌜ (valid p ≡ true) × (length (render p) ≤ length (now out)) ⌝ }
+    requires { ⌜ Ready p (now out) ⌝ }
     ensures { λ r. ⌜ Wrote (render p) (now (out .entry)) r (now (out .exit)) ⌝ }
 {
     let written = writer::write_program(p, out);
@@ -262,9 +226,24 @@ fn put_written(p: Program, out: &mut [u8]) -> usize
     }
 }
 
-// `write`: the book written back, or the refusal.
-pub fn write(text: &[u8], out: &mut [u8]) -> usize
-    ensures { λ r. ⌜ Prints (writeOutput (now (text .entry))) (now (out .entry)) r (now (out .exit)) ⌝ }
+// ---- every word
+// What the command says of the table; no command takes the numbers and the bytes yet.
+fn put_command(p: Program, command: Command, numbers: &[u32], bytes: &[u8], out: &mut [u8]) -> usize
+    requires { ⌜ Ready p (now out) ⌝ }
+    ensures { λ r. ⌜ Wrote (textOf command (now (numbers .entry)) (now (bytes .entry)) p) (now (out .entry)) r (now (out .exit)) ⌝ }
+{
+    match command {
+        Command::Check(word) => put_check(p, word, out),
+        Command::Search(node_limit, places) => put_search(p, node_limit, places, out),
+        Command::Fixpoint(places, capacity) => put_fixpoint(p, places, capacity, out),
+        Command::Summary => put_summary(p, out),
+        Command::Write => put_written(p, out),
+    }
+}
+
+// What the command prints on `text` at the front of `out`, or nothing where `out` is shorter than `MOST_BYTES`; its length.
+pub fn run(text: &[u8], command: Command, numbers: &[u32], bytes: &[u8], out: &mut [u8]) -> usize
+    ensures { λ r. ⌜ Prints (output command (now (numbers .entry)) (now (bytes .entry)) (now (text .entry))) (now (out .entry)) r (now (out .exit)) ⌝ }
 {
     if out.len() < MOST_BYTES {
         return 0;
@@ -273,7 +252,20 @@ pub fn write(text: &[u8], out: &mut [u8]) -> usize
     let verdict = read.verdict;
     let program = read.program;
     match verdict {
-        Verdict::Accepted => put_written(program, out),
-        Verdict::Refused(number) => reporting::put_refused_line(out, number as u64),
+        Verdict::Accepted => put_command(program, command, numbers, bytes, out),
+        Verdict::Refused(number) => put_refused(number, out),
     }
+}
+
+// The report on `text`: a search with its limit and its list.
+pub fn report(text: &[u8], out: &mut [u8]) -> usize
+    ensures { λ r. ⌜ Prints (reportOf (now (text .entry))) (now (out .entry)) r (now (out .exit)) ⌝ }
+{
+    run(
+        text,
+        Command::Search(NODE_LIMIT, MOST_PLACES),
+        &[],
+        &[],
+        out,
+    )
 }

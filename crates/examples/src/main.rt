@@ -1,5 +1,10 @@
 // Prints the report of each book of docs/BOOKS.md and of the README, read from files, and what other words say of one of them.
 ghost use Rattle.io.specs.Counts.{Counts};
+use commands::Command;
+use commands::MOST_BYTES;
+use commands::MOST_PLACES;
+use commands::MOST_WORDS;
+use commands::NODE_LIMIT;
 use libc::STDOUT_FILENO;
 
 // The book's bytes at the start of `book`; their number.
@@ -15,91 +20,62 @@ fn read(path: &[u8], book: &mut [u8]) -> usize
     n
 }
 
-fn print_report(book: &[u8], out: &mut [u8]) {
-    let k = reporting::report(book, out);
+fn print(command: Command, book: &[u8], out: &mut [u8]) {
+    let k = commands::run(book, command, &[], &[], out);
     io::write_all(STDOUT_FILENO, &out[..k]);
 }
 
-fn show(path: &[u8]) {
+// What the command prints on the book.
+fn show(path: &[u8], command: Command) {
     let mut book = [0u8; 4097];
     let n = read(path, &mut book);
-    let mut out = [0u8; 103000];
-    print_report(&book[..n], &mut out);
+    let mut out = [0u8; MOST_BYTES];
+    print(command, &book[..n], &mut out);
 }
 
-fn print_search(book: &[u8], node_limit: u64, places: usize, out: &mut [u8]) {
-    let k = commands::search(book, node_limit, places, out);
-    io::write_all(STDOUT_FILENO, &out[..k]);
-}
-
-fn print_fixpoint(book: &[u8], places: usize, capacity: usize, out: &mut [u8]) {
-    let k = commands::fixpoint(book, places, capacity, out);
-    io::write_all(STDOUT_FILENO, &out[..k]);
-}
-
-fn print_check(book: &[u8], word: u32, out: &mut [u8]) {
-    let k = commands::check(book, word, out);
-    io::write_all(STDOUT_FILENO, &out[..k]);
-}
-
-fn print_summary(book: &[u8], out: &mut [u8]) {
-    let k = commands::summary(book, out);
-    io::write_all(STDOUT_FILENO, &out[..k]);
-}
-
-// A list of one place, a limit of 100 nodes, the fixpoint, the fixpoint in too little room, and the summary.
-fn show_words(path: &[u8]) {
-    let mut book = [0u8; 4097];
-    let n = read(path, &mut book);
-    let mut out = [0u8; 103000];
-    print_search(&book[..n], 33554431, 1, &mut out);
-    print_search(&book[..n], 100, 4096, &mut out);
-    print_fixpoint(&book[..n], 4096, 65536, &mut out);
-    print_fixpoint(&book[..n], 4096, 1, &mut out);
-    print_summary(&book[..n], &mut out);
-}
-
-// Words that are p-stable, violate a clause, have a smaller one within them, and are none over the names.
-fn show_checks(path: &[u8]) {
-    let mut book = [0u8; 4097];
-    let n = read(path, &mut book);
-    let mut out = [0u8; 103000];
-    print_check(&book[..n], 21, &mut out);
-    print_check(&book[..n], 1, &mut out);
-    print_check(&book[..n], 341, &mut out);
-    print_check(&book[..n], 1024, &mut out);
+fn report(path: &[u8]) {
+    show(path, Command::Search(NODE_LIMIT, MOST_PLACES));
 }
 
 fn main() {
     // paid, and the price is due where it is paid
-    show(b"first");
+    report(b"first");
     // the price is due where fell is denied, which nothing does
-    show(b"unsaid");
+    report(b"unsaid");
     // the same, and fell is denied
-    show(b"denied");
+    report(b"denied");
     // the price is due unless something says that it fell
-    show(b"default");
+    report(b"default");
     // the same, and it fell
-    show(b"defeated");
+    report(b"defeated");
     // paid, the motor turned and the drop sensor lit: it fell, and nothing is due
-    show(b"sold");
+    report(b"sold");
     // the bar hung: the motor turned and the sensor stayed dark, so the price is due
-    show(b"hung");
+    report(b"hung");
     // no sensor: it fell or it hung, a model for each
-    show(b"either");
+    report(b"either");
     // the same, and a witness: it cannot be that it hung
-    show(b"witness");
+    report(b"witness");
     // paid, and the motor must have turned, which nothing says: no model
-    show(b"stalled");
+    report(b"stalled");
     // a claim that holds unless it holds: no model
-    show(b"circle");
+    report(b"circle");
     // the sensor lit, and a bar hangs in the window: fell is contradictory, and the rest is still settled
-    show(b"disputed");
+    report(b"disputed");
     // no newline at the end, two equal names, a value that is none, a clause of zeros: refused
-    show(b"unended");
-    show(b"twins");
-    show(b"misread");
-    show(b"blank");
-    show_words(b"either");
-    show_checks(b"either");
+    report(b"unended");
+    report(b"twins");
+    report(b"misread");
+    report(b"blank");
+    // a list of one place, a limit of 100 nodes, the fixpoint, the fixpoint in too little room, and the summary
+    show(b"either", Command::Search(NODE_LIMIT, 1));
+    show(b"either", Command::Search(100, MOST_PLACES));
+    show(b"either", Command::Fixpoint(MOST_PLACES, MOST_WORDS));
+    show(b"either", Command::Fixpoint(MOST_PLACES, 1));
+    show(b"either", Command::Summary);
+    // words that are p-stable, violate a clause, have a smaller one within them, and are none over the names
+    show(b"either", Command::Check(21));
+    show(b"either", Command::Check(1));
+    show(b"either", Command::Check(341));
+    show(b"either", Command::Check(1024));
 }

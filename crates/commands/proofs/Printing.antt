@@ -1,0 +1,100 @@
+-- The ways that a word comes to its text: the book is refused or read, and the command is one of the five. Assumes nothing.
+use mathlib.Core.Path.{_≡_, refl, sym, ap, _∙_}
+use mathlib.Core.Bool.{true, false}
+use mathlib.Core.Logic.{⊎-elim}
+use mathlib.Core.List.{List, []}
+use Prim.Native.Nat.{ℕ, _≤_, _<_}
+use native.Mathlib.Omega.{arith}
+use lib.Dec.{eqb, ltb}
+use lib.ListN.{length, drop, length-append}
+use lib.Seq.{length-take-le}
+use borrow.Author.Tests.{ltb-false, le-leb, lt-leb}
+use Rattle.sets.proofs.Tests.{dec, both-false}
+use Rattle.lists.specs.Bytes.{Wrote}
+use Rattle.program.specs.declared.Program.{Program}
+use Rattle.program.specs.declared.Verdict.the-variants as verdict
+use Rattle.program.specs.Refusals.{lowest}
+use Rattle.text.specs.declared.Read.{Read}
+use Rattle.text.specs.Refusals.{wrongSize, refusal}
+use Rattle.text.specs.Reading.{readOf, IsAccepted}
+use Rattle.text.specs.Render.{render}
+use Rattle.text.proofs.RoundTrip as trip
+use Rattle.lines.specs.Printed.{refusedLine}
+use Rattle.commands.specs.declared.Command.{Command}
+use Rattle.commands.specs.declared.Command.the-variants as command
+use Rattle.commands.specs.Printing.{unlessRefused, printed, mostBytes, Prints, Ready}
+use Rattle.commands.specs.Commands.{checkText, lentList, searchText, workSlice, fixpointText, summaryText, allowance, textOf, output, reportOf}
+
+-- ---- a slice without room, and one with room
+module _ (t xs : List ℕ) where
+  pub no-room : length xs < mostBytes → Prints t xs 0 xs
+  no-room h = record { size = rw (lt-leb mostBytes (length xs) h); whole = rw (lt-leb mostBytes (length xs) h); within = omega arith; part = refl }
+
+  prints : (r : ℕ) (ys : List ℕ) → mostBytes ≤ length xs → Wrote t xs r ys → Prints t xs r ys
+  prints r ys h w =
+      let l : r ≤ length ys = omega (arith, w .size, ap length (w .whole), length-append t (drop (length t) xs)) in
+      record {
+        size = w .size ∙ rw (le-leb mostBytes (length xs) h);
+        whole = w .whole ∙ rw (le-leb mostBytes (length xs) h);
+        within = l;
+        part = sym (length-take-le r ys l);
+      }
+
+-- ---- the text was read
+text-short : (b : List ℕ) → refusal b ≡ 0 → length b ≤ 4096
+unfolding refusal lowest wrongSize
+text-short b z = ⊎-elim
+    (λ t. absurd (let e : refusal b ≡ 1 = rw t in omega arith))
+    (λ f. ltb-false _ _ (both-false (eqb (length b) 0) (ltb 4096 (length b)) f .1))
+    (dec (wrongSize b))
+
+module _ (b : List ℕ) (d : Read) (e : d ≡ readOf b) (xs : List ℕ) (h : mostBytes ≤ length xs) where
+  taken : d .verdict ≡ verdict.Accepted → IsAccepted b
+  taken t = ap (λ (x : Read). x .verdict) (sym e) ∙ t
+
+  pub read-ready : d .verdict ≡ verdict.Accepted → Ready (d .program) xs
+  read-ready t =
+      let a = taken t in
+      let q : render (d .program) ≡ b = ap (λ (x : Read). render (x .program)) e ∙ trip.written-back b a in
+      record {
+        read = rw e (trip.read-valid b a);
+        text = rw q (omega (arith, text-short b (trip.cleared b a)));
+        room = h;
+      }
+
+  module _ (k : Command) (ns bs : List ℕ) (r : ℕ) (ys : List ℕ) where
+    pub run-read : d .verdict ≡ verdict.Accepted → Wrote (textOf k ns bs (d .program)) xs r ys → Prints (output k ns bs b) xs r ys
+    unfolding output printed unlessRefused
+    run-read t w = prints (output k ns bs b) xs r ys h (rw (← e, t) w)
+
+    pub run-refused : (n : ℕ) → d .verdict ≡ verdict.Refused n → Wrote (refusedLine n) xs r ys → Prints (output k ns bs b) xs r ys
+    unfolding output printed unlessRefused
+    run-refused n t w = prints (output k ns bs b) xs r ys h (rw (← e, t) w)
+
+-- ---- each command has its text
+module _ (k : Command) (ns bs : List ℕ) (p : Program) (xs : List ℕ) (r : ℕ) (ys : List ℕ) where
+  pub is-check : (w : ℕ) → k ≡ command.Check w → Wrote (checkText w p) xs r ys → Wrote (textOf k ns bs p) xs r ys
+  unfolding textOf
+  is-check w e h = rw e h
+
+  pub is-search : (A places : ℕ) → k ≡ command.Search A places → Wrote (searchText A (lentList places) p) xs r ys → Wrote (textOf k ns bs p) xs r ys
+  unfolding textOf
+  is-search A places e h = rw e h
+
+  pub is-fixpoint : (places capacity : ℕ) → k ≡ command.Fixpoint places capacity
+      → Wrote (fixpointText (lentList places) (workSlice capacity) (workSlice capacity) p) xs r ys → Wrote (textOf k ns bs p) xs r ys
+  unfolding textOf
+  is-fixpoint places capacity e h = rw e h
+
+  pub is-summary : k ≡ command.Summary → Wrote (summaryText p) xs r ys → Wrote (textOf k ns bs p) xs r ys
+  unfolding textOf
+  is-summary e h = rw e h
+
+  pub is-write : k ≡ command.Write → Wrote (render p) xs r ys → Wrote (textOf k ns bs p) xs r ys
+  unfolding textOf
+  is-write e h = rw e h
+
+-- ---- the report
+pub report-prints : (b xs : List ℕ) (r : ℕ) (ys : List ℕ) → Prints (output (command.Search allowance 4096) [] [] b) xs r ys → Prints (reportOf b) xs r ys
+unfolding output textOf reportOf
+report-prints b xs r ys h = h

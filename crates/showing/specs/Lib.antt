@@ -1,2 +1,0 @@
--- The lines of a summary.
-pub mod Showing
