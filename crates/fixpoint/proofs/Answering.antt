@@ -21,7 +21,7 @@ use Rattle.program.specs.Refusals.{lowest}
 use Rattle.sets.proofs.Lists.{length-tabulate}
 use Rattle.program.proofs.Validity.{valid-names, valid-clauses, valid-below}
 use Rattle.rising.specs.RisingSets.{gather}
-use Rattle.rising.specs.Slices.{Kept}
+use Rattle.rising.specs.Slices.{Prefix}
 use Rattle.operator.specs.Operator.{WordRule, rulesFrom}
 use Rattle.stages.specs.Run.{crowded}
 use Rattle.stages.specs.Minimal.{minimalModels, Minimals}
@@ -55,7 +55,7 @@ pub shorter-right : (x y : ℕ) → y ≤ x → y ≡ min x y
 shorter-right x y h = omega arith
 
 -- literal parts are words of the list
-pub small-parts : (m : ℕ) (l out : List ℕ) (r : ℕ) → m ≤ 32 → Kept (gather (map (literalPart m) l)) out r → Each (λ x. x < 2 ^ 32) (take r out)
+pub small-parts : (m : ℕ) (l out : List ℕ) (r : ℕ) → m ≤ 32 → Prefix (gather (map (literalPart m) l)) out r → Each (λ x. x < 2 ^ 32) (take r out)
 small-parts m l out r h k x i = ⊎-elim
     (λ j. let s = map-in (literalPart m) x l j in
     lt-of-lt-of-le (subst (λ z. z < 2 ^ m) (sym (s .2)) (mod-lt (s .0) (pow-pos m))) (pow-mono h))
@@ -72,7 +72,7 @@ module _ (m : ℕ) (Q : List WordRule) (room : ℕ) where
       go false c = absurd (omega (arith, d .fits c))
 
   pub answered : (xs first second set out : List ℕ) (n k : ℕ) (r : FixpointAnswer) → Minimals Q room n first second → n ≤ room
-      → Kept (gather (map (literalPart m) (sift (canonical m) (take n first)))) set k → out ≡ overwrite xs (take k set) → r ≡ listed k (length xs) → Answered m Q room xs out r
+      → Prefix (gather (map (literalPart m) (sift (canonical m) (take n first)))) set k → out ≡ overwrite xs (take k set) → r ≡ listed k (length xs) → Answered m Q room xs out r
   unfolding runAnswer runExit listing
   answered xs first second set out n k r d h g e a = go (crowded Q room) refl
     where

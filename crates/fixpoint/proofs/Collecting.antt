@@ -17,13 +17,13 @@ use Rattle.fixpoint.specs.Overwriting.{overwrite}
 use Rattle.sets.proofs.Lists.{at-in}
 use Rattle.sets.specs.Lists.{Each, sift, Rising}
 use Rattle.sets.specs.Words.{inside}
-use Rattle.rising.proofs.Growing.{Growing, put-grown, grow-start, grow-call, grow-done}
+use Rattle.rising.proofs.Growing.{Growing, inserted-grown, grow-start, grow-call, grow-done}
 use Rattle.stages.proofs.Minimal.{sift-one, sift-none, sift-short}
 use Rattle.rising.proofs.RisingSets.{nothing-rises}
 use Rattle.stages.proofs.Selecting.{one-more, no-more}
 use Rattle.rising.proofs.Slices.{size-fits}
 use Rattle.rising.specs.RisingSets.{insertInto, addAll, gather}
-use Rattle.rising.specs.Slices.{Put, Kept}
+use Rattle.rising.specs.Slices.{Inserted, Prefix}
 
 pub low-is : (w m : ℕ) → m < 64 → bitAnd w (1 * 2 ^ m % 2 ^ 64 - 1) ≡ literalPart m w
 low-is w m h = ap (λ (x : ℕ). bitAnd w (x - 1)) (shl-exact 1 m 64 (lit< tt) (omega arith) ∙ one-mul (2 ^ m)) ∙ and-mask w m
@@ -101,7 +101,7 @@ module _ (m : ℕ) (l : List ℕ) (count : ℕ) (xs : List ℕ) where
           (part h ∙ ap (λ (x : Bool). cond x (getD l p 0 ∷ sift (canonical m) (drop (p + 1) (take count l))) (sift (canonical m) (drop (p + 1) (take count l)))) (sym e ∙ y)) (s .grows);
     }
 
-    pub collecting-keep : (b : Bool) (x r : ℕ) (out : List ℕ) → p < count → b ≡ canonical m (getD l p 0) → b ≡ true → x ≡ literalPart m (getD l p 0) → Put ys out (insertInto x (take n ys)) r
+    pub collecting-keep : (b : Bool) (x r : ℕ) (out : List ℕ) → p < count → b ≡ canonical m (getD l p 0) → b ≡ true → x ≡ literalPart m (getD l p 0) → Inserted ys out (insertInto x (take n ys)) r
         → Collecting m l count xs out r (p + 1)
     unfolding addAll
     collecting-keep b x r out h e y v g = record {
@@ -113,10 +113,10 @@ module _ (m : ℕ) (l : List ℕ) (count : ℕ) (xs : List ℕ) where
           (map (literalPart m) (sift (canonical m) (drop (p + 1) (take count l)))) ys out n r (s .grows)
           (ap (map (literalPart m)) (part h ∙ ap (λ (z : Bool). cond z (getD l p 0 ∷ sift (canonical m) (drop (p + 1) (take count l))) (sift (canonical m) (drop (p + 1) (take count l)))) (sym e ∙ y))
           ∙ ap (λ (z : ℕ). z ∷ map (literalPart m) (sift (canonical m) (drop (p + 1) (take count l)))) (sym v))
-          (omega (arith, collecting-fits, s .grows .long)) (put-grown ys out (insertInto x (take n ys)) r g);
+          (omega (arith, collecting-fits, s .grows .long)) (inserted-grown ys out (insertInto x (take n ys)) r g);
     }
 
-    pub collecting-done : count ≤ p → Kept (gather (map (literalPart m) (sift (canonical m) (take count l)))) ys n × (n ≤ count)
+    pub collecting-done : count ≤ p → Prefix (gather (map (literalPart m) (sift (canonical m) (take count l)))) ys n × (n ≤ count)
     collecting-done h =
         let d = grow-done (length xs) (gather (map (literalPart m) (sift (canonical m) (take count l)))) (map (literalPart m) (sift (canonical m) (drop p (take count l)))) ys n (s .grows)
         (ap (map (literalPart m)) (ap (sift (canonical m)) (no-more l count p (s .inside) h) ∙ sift-none (canonical m))) in

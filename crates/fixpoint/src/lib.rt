@@ -5,7 +5,7 @@ ghost use Prim.Native.Nat.{_*_, _^_, _≤_, _<_, min};
 ghost use lib.ListN.{length, take};
 ghost use Rattle.sets.specs.Lists.{Each, sift};
 ghost use Rattle.rising.specs.RisingSets.{gather};
-ghost use Rattle.rising.specs.Slices.{Kept};
+ghost use Rattle.rising.specs.Slices.{Prefix};
 ghost use Rattle.operator.specs.Operator.{rulesFrom};
 ghost use Rattle.transform.specs.Emit.{clausesFrom, Book};
 ghost use Rattle.transform.specs.Listing.{literalPart, canonical};
@@ -39,7 +39,7 @@ fn is_canonical(w: u64, m: u32) -> bool
 // Forms in `set` the set of the literal parts of the canonical ones among the first `count` words.
 fn collect(list: &[u64], count: usize, m: u32, set: &mut [u64]) -> usize
     requires { ⌜ (count ≤ length (now list)) × (count ≤ length (now set)) × (m < 64) ⌝ }
-    ensures { λ r. ⌜ Kept (gather (map (literalPart m) (sift (canonical m) (take count (now (list .entry)))))) (now (set .exit)) r × (r ≤ count) ⌝ }
+    ensures { λ r. ⌜ Prefix (gather (map (literalPart m) (sift (canonical m) (take count (now (list .entry)))))) (now (set .exit)) r × (r ≤ count) ⌝ }
 {
     let mut n: usize = 0;
     let mut p: usize = 0;

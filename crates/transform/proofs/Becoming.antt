@@ -17,7 +17,7 @@ use Rattle.epistemic.proofs.Slots.{mask-++, mask-shift}
 use Rattle.program.specs.Clauses.{Clause}
 use Rattle.sets.proofs.Digits.{bit-or, bit-ext}
 use Rattle.sets.specs.Words.{bit, mask, put}
-use Rattle.rising.proofs.Literals.{low-lt, literals-low, literals-none}
+use Rattle.rising.proofs.Literals.{low-less, literals-low, literals-none}
 use Rattle.rising.specs.Literals.{literals, low}
 use Rattle.operator.specs.Operator.{WordRule}
 use Rattle.transform.proofs.Emit.{emits-as, Emitting, emitting-start, emitting-room, emitting-call, emitting-done}
@@ -50,14 +50,14 @@ module _ (head s : ℕ) where
     pub standing-step : (v : ℕ) → (rest ≡ 0 → ⊥) → v ≡ put p w → Standing head s (low rest) (p + 1) v
     unfolding standMask mask numbered
     standing-step v n e = record {
-      small = omega (arith, low-lt rest (omega (arith, n)), z .small);
+      small = omega (arith, low-less rest n, z .small);
       places = let l = ap length (literals-low rest n (z .small)) in omega (arith, z .places);
       whole = ap (λ x. bitOr x (standMask (p + 1) (low rest))) e ∙ or-assoc w (2 ^ p) (standMask (p + 1) (low rest))
           ∙ ap (bitOr w) (ap (λ (l : List ℕ). mask (map (λ (q : Stand). q .at) (numbered p l))) (sym (literals-low rest n (z .small)))) ∙ z .whole;
     }
 
     pub standing-less : (rest ≡ 0 → ⊥) → low rest < rest
-    standing-less n = low-lt rest (omega (arith, n))
+    standing-less n = low-less rest n
 
     pub standing-done : rest ≡ 0 → w ≡ standMask s head
     unfolding standMask mask numbered
@@ -79,10 +79,10 @@ module _ (head : ℕ) where
     counting-few k = let l = ap length (literals-low rest k (z .small)) in omega (arith, z .whole, z .most)
 
     pub counting-step : (rest ≡ 0 → ⊥) → Counting head (low rest) (n + 1)
-    counting-step k = record { small = omega (arith, low-lt rest (omega (arith, k)), z .small); most = z .most; whole = let l = ap length (literals-low rest k (z .small)) in omega (arith, z .whole) }
+    counting-step k = record { small = omega (arith, low-less rest k, z .small); most = z .most; whole = let l = ap length (literals-low rest k (z .small)) in omega (arith, z .whole) }
 
     pub counting-less : (rest ≡ 0 → ⊥) → low rest < rest
-    counting-less k = low-lt rest (omega (arith, k))
+    counting-less k = low-less rest k
 
     pub counting-done : rest ≡ 0 → (n ≡ length (literals head)) × (n ≤ 64)
     counting-done e = let l = ap length (ap literals e ∙ literals-none) in (omega (arith, z .whole), omega (arith, z .whole, z .most))

@@ -7,7 +7,7 @@ use mathlib.Core.List.{List, [], _∷_, _++_, append-assoc, append-nil, flatMap}
 use mathlib.Core.Path.{_≡_, refl, sym, ap, ap₂, _∙_, subst}
 use native.Mathlib.Numerals.{add-one}
 use native.Mathlib.Omega.{arith}
-use Rattle.rising.proofs.Literals.{low-lt, literals-low, literals-none, trailing-lt}
+use Rattle.rising.proofs.Literals.{low-less, literals-low, literals-none, trailing-lt}
 use Rattle.rising.specs.Literals.{literals, low}
 use Rattle.operator.specs.Operator.{WordRule, rulesFrom}
 use Rattle.transform.specs.Emit.{Emits, Room, forEach}
@@ -121,13 +121,13 @@ module _ (f : Stand → List WordRule) (head s : ℕ) (hs₀ bs₀ : List ℕ) (
     pub walk-step : (t : ℕ) (hs′ bs′ : List ℕ) (r : ℕ) → (rest ≡ 0 → ⊥) → t ≡ trailingZeros 64 rest → Emits (f (record { literal = t; at = p })) hs bs at hs′ bs′ r
         → Walk f head s hs₀ bs₀ at₀ (low rest) (p + 1) hs′ bs′ r
     walk-step t hs′ bs′ r n e c = record {
-      small = omega (arith, low-lt rest (omega (arith, n)), w .small);
+      small = omega (arith, low-less rest n, w .small);
       places = let l = ap length (literals-low rest n (w .small)) in omega (arith, w .places);
       emits = emitting-call (forEach f s head) (forEach f p rest) hs₀ bs₀ at₀ hs bs at (w .emits) (f (record { literal = t; at = p })) (forEach f (p + 1) (low rest)) hs′ bs′ r (first t n e) c;
     }
 
     pub walk-less : (rest ≡ 0 → ⊥) → low rest < rest
-    walk-less n = low-lt rest (omega (arith, n))
+    walk-less n = low-less rest n
 
     pub walk-heads : length hs ≡ length hs₀
     walk-heads = w .emits .heads
