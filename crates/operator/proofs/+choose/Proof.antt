@@ -89,6 +89,6 @@ pub +choose-spec : {M : Type 1} → statement M
     let at-with = at-call .before .before .before in
     let at-literal = at-with .before in
     let at-loop = at-literal .before .before .before in
-    follow-step _ _ _ _ _ _ _ _ _ _ _ _ _ (at-loop .loop .inv) _ _ _ _ _ (search choosing) (search choosing) (at-literal .lowest .ensures) (at-with .with .ensures) (at-call .choose3 .ensures))
+    follow-step _ _ _ _ _ _ _ _ _ _ _ _ _ (at-loop .loop .inv) _ _ _ _ _ (search choosing) (search choosing) (at-literal .lowest .ensures) (search choosing) (at-call .choose3 .ensures))
     (λ c. search choosing)
     (λ c. search choosing)
