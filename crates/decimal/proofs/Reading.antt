@@ -14,7 +14,7 @@ use Rattle.sets.proofs.Tests.{lt-or-ge, both-true, both-false, clash, via-true}
 use Rattle.lists.specs.Bytes.{Wrote}
 use Rattle.lists.proofs.Writing.{Put, put-byte, put-done, put-long, wrote-put}
 use Rattle.decimal.specs.declared.Parsed.the-variants.{Number, Nothing}
-use Rattle.decimal.specs.Decimal.{decimal, parsedOf, digitOf, goesOn, Measures}
+use Rattle.decimal.specs.Decimal.{decimal, parsedOf, digitOf, goesOn}
 use Rattle.decimal.proofs.Laws.{decimal-one, decimal-more, by-tens, length-more, decimal-long, decimal-short, decimal-injective, number-hit, number-none}
 
 -- ---- digits
@@ -189,27 +189,6 @@ module _ (s : List ℕ) (bound : ℕ) where
   parse-done i v p h =
       let e = number-hit bound s v (p .small) (p .text ∙ take-all i s h) in
       rw (e, le-leb v bound (p .small))
-
--- ---- the length
-module _ (v : ℕ) where
-  -- n - 1 of the digits of v stand behind those of x
-  pub record Counting (x n : ℕ) : Type 0 where
-    pub rest : n + length (decimal x) ≡ length (decimal v) + 1
-    pub all : length (decimal v) ≤ 20
-
-  pub counting-start : v < 2 ^ 64 → Counting v 1
-  counting-start h = record { rest = omega arith; all = decimal-short 19 v (omega arith) }
-
-  pub counting-more : (x n : ℕ) → Counting x n → 10 ≤ x → Counting (x / 10) (n + 1)
-  counting-more x n c h = record { rest = omega (arith, c .rest, length-more x h); all = c .all }
-
-  pub counting-small : (x n : ℕ) → Counting x n → n ≤ 20
-  counting-small x n c = omega (arith, c .rest, c .all, decimal-long x)
-
-  pub counting-done : (x n : ℕ) → Counting x n → x < 10 → Measures v n
-  counting-done x n c h =
-      let e : n ≡ length (decimal v) = omega (arith, c .rest, ap length (decimal-one x h)) in
-      record { is = e; small = counting-small x n c }
 
 -- ---- putting
 pub put-some : (v : ℕ) (xs : List ℕ) → length (decimal v) ≤ length xs → 0 < length xs

@@ -1,7 +1,7 @@
--- What `search` is handed at the needs of this crate: read, measured, put. Assumes nothing.
+-- What `search` is handed at the needs of this crate: read, put. Assumes nothing.
 use Rattle.lists.proofs.Loops.{loops}
 use Rattle.decimal.proofs.Reading.{digit-low, digit-high, digit-is, over-bound, goes, parse-empty, parse-start, parse-not, parse-more}
-use Rattle.decimal.proofs.Reading.{parse-fits, parse-tens-fit, parse-stop, parse-done, counting-start, counting-more, counting-small, counting-done}
+use Rattle.decimal.proofs.Reading.{parse-fits, parse-tens-fit, parse-stop, parse-done}
 use Rattle.decimal.proofs.Reading.{put-some, put-one, put-behind, put-fits, put-more, tens-room}
 
 pub ruleset rules = (
@@ -18,10 +18,6 @@ pub ruleset rules = (
   parse-tens-fit,
   parse-stop,
   parse-done,
-  counting-start,
-  counting-more,
-  counting-small,
-  counting-done,
   put-some,
   put-one,
   put-behind,

@@ -31,11 +31,6 @@ unfoldable pub parsedOf : ℕ → List ℕ → Parsed
 unfolding numberOf
 parsedOf bound item = cond (leb (numberOf bound item) bound) (Number (numberOf bound item)) Nothing
 
--- r is the length of the decimal text of v
-pub record Measures (v r : ℕ) : Type 0 where
-  pub is : r ≡ length (decimal v)
-  pub small : r ≤ 20
-
 -- the digit that a byte is, 10 for another byte
 unfoldable pub digitOf : ℕ → ℕ
 digitOf x = cond (leb 48 x && leb x 57) (x - 48) 10

@@ -3,7 +3,7 @@ ghost use mathlib.Core.Path.{_≡_};
 ghost use Prim.Native.Nat.{_+_, _≤_};
 ghost use lib.ListN.{length};
 ghost use Rattle.lists.specs.Bytes.{Wrote};
-ghost use Rattle.decimal.specs.Decimal.{decimal, digitOf, goesOn, parsedOf, Measures};
+ghost use Rattle.decimal.specs.Decimal.{decimal, digitOf, goesOn, parsedOf};
 
 // The number that a text is, or that it is none.
 pub enum Parsed {
@@ -55,19 +55,6 @@ pub fn read_number(s: &[u8], bound: u64) -> Parsed
         i += 1;
     }
     Parsed::Number(v)
-}
-
-// The length of the decimal text of `v`.
-pub fn decimal_length(v: u64) -> usize
-    ensures { λ r. ⌜ Measures v r ⌝ }
-{
-    let mut n: usize = 1;
-    let mut x = v;
-    while 10 <= x {
-        x = x / 10;
-        n += 1;
-    }
-    n
 }
 
 fn digit_byte(d: u64) -> u8

@@ -83,7 +83,7 @@ pub data Call : Type 0 where
   check : Program → (word : ℕ) → Checked → Call
   summarize : Program → (words : List ℕ) → Summary → Call
   search : Program → (limit : ℕ) (models : Lent) → SearchAnswer → Call
-  fixpoint : Program → (models work more : Lent) → FixpointAnswer → Call
+  fixpoint : Program → (models first second : Lent) → FixpointAnswer → Call
 
 -- in this order: the contract, the numbers that are met, the verdict, the numbers that are shown, the slices that may be written, the working slices
 abbrev told-by : Type 0 → List (ℕ × Bool) → Verdict → List ℕ → List Lent → List Lent → Told

@@ -26,15 +26,6 @@ filler-at d zero j = refl
 filler-at d (suc n) zero = refl
 filler-at d (suc n) (suc j) = filler-at d n j
 
-pub padded-at : (k : ℕ) (s : List ℕ) (j : ℕ) → getD (padded k s) j 0 ≡ getD s j 0
-unfolding padded
-padded-at k s j = go s j (k - length s)
-  where
-    go : (s : List ℕ) (j n : ℕ) → getD (s ++ replicate n 0) j 0 ≡ getD s j 0
-    go [] j n = filler-at 0 n j
-    go (x ∷ s) zero n = refl
-    go (x ∷ s) (suc j) n = go s j n
-
 -- written over zeros
 pub over-padded : (k : ℕ) (L : List ℕ) → over L (replicate k 0) ≡ padded k L
 unfolding padded

@@ -56,10 +56,6 @@ module _ (c : ℕ) where
   unfolding left
   left-done xs at h = rw (lt-leb at (length xs) h)
 
-  pub end-le : (xs : List ℕ) (at : ℕ) → at ≤ length xs → endOf c xs at ≤ length xs
-  unfolding endOf
-  end-le xs at h = omega (arith, index-le (drop at xs), length-drop at xs)
-
   pub end-ge : (xs : List ℕ) (at : ℕ) → at ≤ endOf c xs at
   unfolding endOf
   end-ge xs at = omega arith

@@ -14,13 +14,13 @@ size room m = min (length m) (room + 1)
 unfoldable pub overlay : List ℕ → List ℕ → List ℕ
 overlay xs m = cond (leb (length m) (length xs)) (m ++ drop (length m) xs) xs
 
--- the members from `at` to `count` moved up by one place, over the place `count`
+-- the members from `at` to `members` moved up by one place, over the place `members`
 unfoldable pub opened : List ℕ → ℕ → ℕ → List ℕ
-opened xs at count = take (suc at) xs ++ (drop at (take count xs) ++ drop (suc count) xs)
+opened xs at members = take (suc at) xs ++ (drop at (take members xs) ++ drop (suc members) xs)
 
--- x stands at `at`, among the first `count` places
+-- x stands at `at`, among the first `members` places
 unfoldable pub standsAt : List ℕ → ℕ → ℕ → ℕ → Bool
-standsAt xs count at x = cond (ltb at count) (eqb (getD xs at 0) x) false
+standsAt xs members at x = cond (ltb at members) (eqb (getD xs at 0) x) false
 
 -- r and the list at exit, where m was to be put into the first places of xs
 pub record Inserted (xs out m : List ℕ) (r : ℕ) : Type 0 where

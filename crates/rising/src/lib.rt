@@ -26,7 +26,7 @@ fn place(set: &[u64], members: usize, x: u64) -> usize
     lo
 }
 
-// Moves the members from `at` to `members` up by one place.
+// Moves the members from the place `at` on up by one place.
 fn open(set: &mut [u64], at: usize, members: usize)
     requires { ⌜ (at ≤ members) × (members < length (now set)) ⌝ }
     ensures { λ r. ⌜ now (set .exit) ≡ opened (now (set .entry)) at members ⌝ }

@@ -60,7 +60,7 @@ module _ (n : ℕ) (few : n ≤ 12) where
 zeros-said : (vss : List (List ℕ)) → anyOf (λ l. l .zero) (map (said true) vss) ≡ anyOf (every (eqb 0)) vss
 unfolding anyOf said
 zeros-said [] = refl
-zeros-said (vs ∷ vss) = rw (zeros-said vss)
+zeros-said (vs ∷ vss) = rw (and-true (every (eqb 0) vs), zeros-said vss)
 
 module _ (b : List ℕ) (z : openingRefusal b ≡ 0) where
   pub names-few : (n : ℕ) → n ≡ length (names b) → n ≤ 12

@@ -1,6 +1,6 @@
 -- The tests and the words of a row, one value after another from the last to the first. Assumes nothing.
 use mathlib.Core.Path.{_≡_, sym, ap, _∙_}
-use mathlib.Core.Bool.{Bool, true, _&&_, and-assoc}
+use mathlib.Core.Bool.{Bool, _&&_, and-assoc}
 use mathlib.Core.List.{List, _∷_}
 use Prim.Native.Nat.{ℕ, suc, _+_, _-_, _*_, _/_, _%_, _≤_, _<_}
 use native.Mathlib.Omega.{arith}
@@ -18,7 +18,7 @@ use Rattle.rows.specs.Rows.{weighed}
 
 -- what some values say, where h was said of their number
 unfoldable pub said : Bool → List ℕ → ClauseLine
-said h vs = record { holds = every isValue vs && h; zero = every (eqb 0) vs; head = headOf vs; body = bodyOf vs; naf = nafOf vs }
+said h vs = record { holds = every isValue vs && h; zero = every (eqb 0) vs && h; head = headOf vs; body = bodyOf vs; naf = nafOf vs }
 
 -- with one value in front
 abbrev with-value : ℕ → ClauseLine → ClauseLine
@@ -34,7 +34,7 @@ said-more : (h : Bool) (v : ℕ) (vs : List ℕ) → with-value v (said h vs) �
 unfolding said every wordBy wordOf bitsOf
 said-more h v vs =
     let e : v % 4 ≡ v / 1 % 4 = omega arith in
-    rw (e, ← and-assoc (isValue v) (every isValue vs) h)
+    rw (e, ← and-assoc (isValue v) (every isValue vs) h, ← and-assoc (eqb 0 v) (every (eqb 0) vs) h)
 
 module _ (values : List ℕ) (n : ℕ) (h : Bool) where
   -- the values from i on have been weighed
@@ -62,9 +62,9 @@ module _ (values : List ℕ) (n : ℕ) (h : Bool) where
           let s : length vs ≤ 12 = omega (arith, length-drop i (take n values), length-take n values) in
           omega (arith, word-lt k vs, pow-mono {i = 2 * length vs} {j = 24} (omega arith))
 
-  pub weigh-start : n ≤ 12 → Weighing n h true 0 0 0
+  pub weigh-start : n ≤ 12 → Weighing n h h 0 0 0
   unfolding said every wordBy wordOf
-  weigh-start f = weighing n h true 0 0 0 f (omega arith) (ap (said h) (sym (drop-of-length-le (take n values) {i = n} (omega (arith, length-take n values)))))
+  weigh-start f = weighing n h h 0 0 0 f (omega arith) (ap (said h) (sym (drop-of-length-le (take n values) {i = n} (omega (arith, length-take n values)))))
 
   pub weigh-more : (i v : ℕ) (holds zero : Bool) (head body naf : ℕ) → Weighing i holds zero head body naf → n ≤ 12 → length values ≡ 14 → 0 < i → v ≡ getD values (i - 1) 0
       → Weighing (i - 1) (leb v 63 && holds) (eqb 0 v && zero) (v % 4 + 4 * head) (v / 4 % 4 + 4 * body) (v / 16 % 4 + 4 * naf)

@@ -26,7 +26,7 @@ rowOf l = record { count = length (row l); values = first 14 (row l) }
 unfoldable pub weighed : ℕ → Row → ClauseLine
 weighed n r = record {
   holds = every isValue (take n (r .values)) && eqb (r .count) n;
-  zero = every (eqb 0) (take n (r .values));
+  zero = every (eqb 0) (take n (r .values)) && eqb (r .count) n;
   head = headOf (take n (r .values));
   body = bodyOf (take n (r .values));
   naf = nafOf (take n (r .values));

@@ -82,7 +82,7 @@ fn weigh(row: Row, n: usize) -> ClauseLine
 {
     let values = row.values;
     let mut holds = row.count == n;
-    let mut zero = true;
+    let mut zero = holds;
     let mut head: u32 = 0;
     let mut body: u32 = 0;
     let mut naf: u32 = 0;

@@ -1,7 +1,7 @@
 // The check of one candidate against Definition 3.1.
-ghost use Rattle.sets.specs.Lists.{tabulate};
 ghost use mathlib.Core.Path.{_≡_};
 ghost use Prim.Native.Nat.{_≤_, _<_};
+ghost use Rattle.sets.specs.Lists.{tabulate};
 ghost use Rattle.sets.specs.Words.{Inside, Next};
 ghost use Rattle.sets.specs.Least.{least};
 ghost use Rattle.program.specs.Clauses.{clauseOf, clauseAt};

@@ -1,4 +1,4 @@
--- `matching::extend` is safe and ends: it goes once over the root `n` heads, of which there are at most 64. Assumes nothing.
+-- `matching::extend` is safe and ends: it goes once over the first `n` heads, of which there are at most 64. Assumes nothing.
 use Prim.Native.Nat.{_-_, _≤_}
 use Rattle.matching.proofs.Rules.{rules}
 use Rattle.matching.proofs.extend.Statement.{statement}

@@ -1,4 +1,4 @@
--- Some clauses, then others behind them. Assumes nothing.
+-- (b), then (c) and (d) behind it. Assumes nothing.
 use Rattle.transform.proofs.Emitting.{emitting}
 use Rattle.transform.proofs.emit_bcd.Statement.{statement}
 use Rattle.transform.proofs.emit_bcd.Tie as tie

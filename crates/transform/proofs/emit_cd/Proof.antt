@@ -1,4 +1,4 @@
--- Some clauses, then others behind them. Assumes nothing.
+-- (c), then (d) behind it. Assumes nothing.
 use Rattle.transform.proofs.Emitting.{emitting}
 use Rattle.transform.proofs.emit_cd.Statement.{statement}
 use Rattle.transform.proofs.emit_cd.Tie as tie
