@@ -12,6 +12,8 @@ ghost use Rattle.rising.specs.Growing.{Grown};
 ghost use Rattle.rising.specs.RisingSets.{addAll};
 ghost use Rattle.heads.specs.Heads.{headAt, picks, offeredBy, without, between, Literal};
 
+mod matching;
+
 // The highest literal of a word that has one, as a word.
 fn highest(s: u64) -> u64
     requires { ⌜ 0 < s ⌝ }

@@ -1,8 +1,8 @@
--- `matching::flip` is safe and ends: `at` is a place, and at most 64 steps are made. Assumes nothing.
+-- `heads::matching::flip` is safe and ends: `at` is a place, and at most 64 steps are made. Assumes nothing.
 use Prim.Native.Nat.{_<_}
-use Rattle.matching.proofs.Rules.{rules}
-use Rattle.matching.proofs.flip.Statement.{statement}
-use Rattle.matching.proofs.flip.Tie as tie
+use Rattle.heads.proofs.matching.Rules.{rules}
+use Rattle.heads.proofs.matching.flip.Statement.{statement}
+use Rattle.heads.proofs.matching.flip.Tie as tie
 
 abbrev Inv-loop : tie.InvT-loop
 Inv-loop partner₀ from root t k at₀ head₀ left₀ partner at head left = (at < 64)

@@ -1,7 +1,7 @@
--- `matching::matched` meets its contract: the walk over the set bits of `s` ends, since each step takes the lowest away. Assumes nothing.
-use Rattle.matching.proofs.Rules.{rules}
-use Rattle.matching.proofs.matched.Statement.{statement}
-use Rattle.matching.proofs.matched.Tie as tie
+-- `heads::matching::matched` meets its contract: the walk over the set bits of `s` ends, since each step takes the lowest away. Assumes nothing.
+use Rattle.heads.proofs.matching.Rules.{rules}
+use Rattle.heads.proofs.matching.matched.Statement.{statement}
+use Rattle.heads.proofs.matching.matched.Tie as tie
 
 abbrev Inv-loop : tie.InvT-loop
 Inv-loop s k partner rest₀ rest = Unit {0}

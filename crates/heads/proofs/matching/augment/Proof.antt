@@ -1,8 +1,8 @@
--- `matching::augment` is safe and ends: at most 64 times the reached set is extended. Assumes nothing.
+-- `heads::matching::augment` is safe and ends: at most 64 times the reached set is extended. Assumes nothing.
 use Prim.Native.Nat.{_≤_}
-use Rattle.matching.proofs.Rules.{rules}
-use Rattle.matching.proofs.augment.Statement.{statement}
-use Rattle.matching.proofs.augment.Tie as tie
+use Rattle.heads.proofs.matching.Rules.{rules}
+use Rattle.heads.proofs.matching.augment.Statement.{statement}
+use Rattle.heads.proofs.matching.augment.Tie as tie
 
 abbrev Inv-loop : tie.InvT-loop
 Inv-loop wide n s t partner₀ root from₀ x₀ left₀ partner from x left = (n ≤ 64)
