@@ -41,9 +41,11 @@ use Rattle.fixpoint.specs.Answer.{Fixes, roomOf}
 use Rattle.summary.specs.declared.Summary.{Summary}
 use Rattle.summary.specs.Summary.{summaryOf}
 use Rattle.lines.specs.Laying.{Room}
-use Rattle.lines.specs.Printed.{outcomeWord, numbered, refusedLine, modelLines, listing, lastLine}
-use Rattle.lines.specs.Summary.{fourLines, flagsLine}
-use Rattle.lines.proofs.Bounds.{numbered-most, refused-most, outcome-most, listing-most, listing-is, summary-most}
+use Rattle.lines.specs.Printed.{outcomeWord, numbered, refusedLine, lastLine}
+use Rattle.listings.specs.Listing.{modelLines, listing}
+use Rattle.listings.specs.Summary.{fourLines, flagsLine}
+use Rattle.lines.proofs.Bounds.{numbered-most, refused-most, outcome-most}
+use Rattle.listings.proofs.Bounds.{listing-most, listing-is, summary-most}
 use Rattle.commands.specs.Printing.{mostBytes, unlessRefused, unlessEnded, Ready, Lent}
 use Rattle.commands.specs.Commands.{violatedWord, smallerWord, stableWord, checkedLine, checkText, lentList, searchText, workSlice, fixedText, fixpointText}
 use Rattle.commands.specs.Commands.{summaryLines, summarizedText, allowance, lent, summaryText}

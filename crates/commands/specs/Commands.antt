@@ -16,8 +16,9 @@ use Rattle.fixpoint.specs.declared.FixpointAnswer.{FixpointAnswer}
 use Rattle.fixpoint.specs.Answer as fixed
 use Rattle.summary.specs.declared.Summary.{Summary}
 use Rattle.summary.specs.Summary.{summaryOf}
-use Rattle.lines.specs.Printed.{outcomeWord, numbered, refusedLine, listing, lastLine}
-use Rattle.lines.specs.Summary.{fourLines, flagsLine}
+use Rattle.lines.specs.Printed.{outcomeWord, numbered, refusedLine, lastLine}
+use Rattle.listings.specs.Listing.{listing}
+use Rattle.listings.specs.Summary.{fourLines, flagsLine}
 use Rattle.commands.specs.declared.Command.{Command}
 use Rattle.commands.specs.declared.Command.the-variants as command
 use Rattle.commands.specs.Printing.{unlessRefused, unlessEnded, printed}

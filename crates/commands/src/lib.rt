@@ -5,7 +5,8 @@ ghost use Prim.Native.Nat.{_≤_, min};
 ghost use lib.ListN.{length};
 ghost use Rattle.lists.specs.Bytes.{Wrote};
 ghost use Rattle.text.specs.Render.{render};
-ghost use Rattle.lines.specs.Printed.{outcomeWord, numbered, refusedLine, listing, lastLine};
+ghost use Rattle.lines.specs.Printed.{outcomeWord, numbered, refusedLine, lastLine};
+ghost use Rattle.listings.specs.Listing.{listing};
 ghost use Rattle.commands.specs.Printing.{mostBytes, Ready, Lent, Prints};
 ghost use Rattle.commands.specs.Commands.{checkText, lentList, searchText, workSlice, fixedText, fixpointText, summaryLines, summarizedText, summaryText, textOf, output, reportOf};
 use program::Outcome;
@@ -57,7 +58,7 @@ fn put_models(p: Program, words: &[u32], out: &mut [u8]) -> usize
     let n = p.atom_count;
     let names = p.atom_names;
     let m = words.len();
-    lines::put_listing(out, &names, n, words, m)
+    listings::put_listing(out, &names, n, words, m)
 }
 
 // ---- check
@@ -187,7 +188,7 @@ fn put_lines(p: Program, s: Summary, out: &mut [u8]) -> usize
     let names = p.atom_names;
     let shown = s.occurring;
     let flags = s.settled;
-    lines::put_summary(out, &names, n, &shown, &flags)
+    listings::put_summary(out, &names, n, &shown, &flags)
 }
 
 // The summary of the words.

@@ -1,25 +1,21 @@
--- How long lines are: names of up to 8 bytes, numbers of so many digits, and what is printed of them. Assumes nothing.
-use mathlib.Core.Path.{_≡_, refl, sym, ap, _∙_}
-use mathlib.Core.Bool.{Bool, true, false}
+-- How long a line is: names of up to 8 bytes, numbers of so many digits, and a word before them. Assumes nothing.
+use mathlib.Core.Path.{_≡_, sym, ap, _∙_}
 use mathlib.Core.List.{List, [], _∷_, _++_, flatMap}
 use Prim.Native.Nat.{ℕ, zero, suc, _+_, _*_, _^_, _≤_, _<_}
 use native.Mathlib.Omega.{arith}
-use lib.ListN.{length, getD, take, length-append, length-take}
+use lib.ListN.{length, getD, length-append}
 use lib.Seq.{take-length}
-use Rattle.sets.specs.Lists.{upFrom, onward, tabulate}
+use Rattle.sets.specs.Lists.{upFrom, tabulate}
 use Rattle.sets.proofs.Lists.{onward-start}
-use Rattle.lists.specs.Bytes.{oneIf}
 use Rattle.decimal.specs.Decimal.{decimal}
 use Rattle.decimal.proofs.Laws.{decimal-short}
-use Rattle.program.specs.declared.Program.{Program}
 use Rattle.program.specs.declared.Outcome.{Outcome}
 use Rattle.program.specs.declared.Outcome.the-variants as ended
-use Rattle.program.specs.Names.{nameAt, namesOf}
-use Rattle.program.specs.Values.{valueIn, wordValues}
+use Rattle.program.specs.Names.{nameAt}
+use Rattle.program.specs.Values.{valueIn}
 use Rattle.text.specs.Lines.{namesLine, valuesLine}
 use Rattle.lines.specs.Laying.{separator, item}
-use Rattle.lines.specs.Printed.{refusedWord, outcomeWord, worded, numbered, refusedLine, modelLines, listing, lastLine}
-use Rattle.lines.specs.Summary.{bitAt, bitsLine, fourLines, flagAt, flagsLine}
+use Rattle.lines.specs.Printed.{refusedWord, outcomeWord, worded, numbered, refusedLine, lastLine}
 use Rattle.lines.proofs.Laying.{laid, names-laid, firsts, row-laid, worded-is}
 use Rattle.lines.proofs.Names.{name-most}
 
@@ -89,55 +85,7 @@ last-most o m v h k = let q = worded-most (outcomeWord o) (m ∷ v ∷ []) (omeg
     each (suc zero) l = k
     each (suc (suc i)) l = absurd (omega arith)
 
--- ---- the lines of models, and the listing
+-- ---- a value of a word
 pub value-small : (w i : ℕ) → valueIn w i < 4
 unfolding valueIn
 value-small w i = omega arith
-
-model-most : (w n : ℕ) → 1 ≤ n → n ≤ 12 → length (valuesLine (wordValues n w)) ≤ 24
-unfolding wordValues
-model-most w n h l = omega (arith, row-most (valueIn w) n 0 h (λ i k. omega (arith, value-small w i)))
-
-pub models-most : (n : ℕ) (ws : List ℕ) → 1 ≤ n → n ≤ 12 → length (modelLines n ws) ≤ 24 * length ws
-unfolding modelLines flatMap
-models-most n [] h l = omega arith
-models-most n (w ∷ ws) h l =
-    omega (arith, models-most n ws h l, model-most w n h l, length-append (valuesLine (wordValues n w)) (flatMap (λ w. valuesLine (wordValues n w)) ws))
-
-pub listing-most : (ns : List ℕ) (n : ℕ) (ms : List ℕ) (m : ℕ) → 1 ≤ n → n ≤ 12 → length (namesLine (tabulate (nameAt ns) n) ++ modelLines n (take m ms)) ≤ 108 + 24 * m
-listing-most ns n ms m h l =
-    omega (arith, length-append (namesLine (tabulate (nameAt ns) n)) (modelLines n (take m ms)), names-most ns n h, models-most n (take m ms) h l, length-take m ms)
-
-pub listing-is : (p : Program) (ms : List ℕ) (m : ℕ) → namesLine (tabulate (nameAt (p .«atom_names»)) (p .«atom_count»)) ++ modelLines (p .«atom_count») (take m ms) ≡ listing p (take m ms)
-unfolding listing namesOf
-listing-is p ms m = refl
-
--- ---- the lines of a summary
-module _ (n : ℕ) (h : 1 ≤ n) (l : n ≤ 12) where
-  bits-most : (k : ℕ) (shown : List ℕ) → length (bitsLine k shown n) ≤ 24
-  unfolding bitsLine bitAt
-  bits-most k shown = omega (arith, row-most (bitAt k shown) n 0 h (λ i l. omega arith))
-
-  flags-most : (flags : List Bool) → length (flagsLine flags n) ≤ 24
-  unfolding flagsLine flagAt
-  flags-most flags = omega (arith, row-most (flagAt flags) n 0 h (λ i l. small (getD flags i false)))
-    where
-      small : (b : Bool) → oneIf b < 10
-      small true = omega arith
-      small false = omega arith
-
-  pub summary-most : (ns shown : List ℕ) (flags : List Bool) → length (namesLine (tabulate (nameAt ns) n) ++ (fourLines shown n ++ flagsLine flags n)) ≤ 228
-  summary-most ns shown flags = omega (
-    arith,
-    length-append (namesLine (tabulate (nameAt ns) n)) (fourLines shown n ++ flagsLine flags n),
-    length-append (fourLines shown n) (flagsLine flags n),
-    length-append (bitsLine 1 shown n ++ bitsLine 2 shown n) (bitsLine 4 shown n ++ bitsLine 8 shown n),
-    length-append (bitsLine 1 shown n) (bitsLine 2 shown n),
-    length-append (bitsLine 4 shown n) (bitsLine 8 shown n),
-    names-most ns n h,
-    bits-most 1 shown,
-    bits-most 2 shown,
-    bits-most 4 shown,
-    bits-most 8 shown,
-    flags-most flags,
-  )

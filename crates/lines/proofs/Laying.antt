@@ -1,8 +1,7 @@
 -- Pieces laid one behind the other: items make a line, lines make a text; each piece is written behind the last. Assumes nothing.
 use mathlib.Core.Path.{_≡_, refl, sym, ap, _∙_}
 use mathlib.Core.List.{List, [], _∷_, _++_, append-assoc, append-nil, map, flatMap}
-use Prim.Native.Nat.{ℕ, zero, suc, _+_, _-_, _*_, _^_, _≤_, _<_}
-use native.Mathlib.Numerals.{add-one}
+use Prim.Native.Nat.{ℕ, zero, suc, _+_, _-_, _^_, _≤_, _<_}
 use native.Mathlib.Omega.{arith}
 use mir.Syntax.{w64}
 use mir.Val.{Fits}
@@ -15,9 +14,8 @@ use Rattle.lists.specs.Bytes.{join, led, Wrote}
 use Rattle.lists.proofs.Writing.{Put, put-start, put-step, put-byte, put-done, put-as, put-room, put-long, part-back, back, wrote-put, two-texts}
 use Rattle.decimal.specs.Decimal.{decimal}
 use Rattle.program.specs.declared.Outcome.{Outcome}
-use Rattle.program.specs.Values.{wordValues}
 use Rattle.text.specs.Lines.{lineOf, namesLine, valuesLine}
-use Rattle.lines.specs.Printed.{outcomeWord, worded, numbered, lastLine, modelLines}
+use Rattle.lines.specs.Printed.{outcomeWord, worded, numbered, lastLine}
 use Rattle.lines.specs.Laying.{separator, item, numberAt, Room}
 
 -- f i, .., f (n - 1), one behind the other
@@ -107,13 +105,6 @@ row-laid f n h = ap lineOf (map-upFrom decimal f n 0) ∙ line-laid (λ i. decim
 
 pub values-laid : (vs : List ℕ) (n : ℕ) → 1 ≤ n → n ≤ length vs → valuesLine (take n vs) ≡ laid (item (numberAt vs) n) n 0
 values-laid vs n h l = ap valuesLine (firsts vs n l) ∙ row-laid (λ i. getD vs i 0) n h
-
-abbrev pub modelAt : ℕ → List ℕ → ℕ → List ℕ
-modelAt n ms k = valuesLine (wordValues n (getD ms k 0))
-
-pub models-laid : (n : ℕ) (ms : List ℕ) (m : ℕ) → m ≤ length ms → modelLines n (take m ms) ≡ laid (modelAt n ms) m 0
-unfolding modelLines
-models-laid n ms m h = ap (modelLines n) (firsts ms m h) ∙ flat-laid (λ w. valuesLine (wordValues n w)) (λ i. getD ms i 0) m
 
 -- a word and numbers behind it
 pub worded-is : (w vs : List ℕ) → 1 ≤ length vs → worded w vs ≡ (w ++ 32 ∷ []) ++ valuesLine vs

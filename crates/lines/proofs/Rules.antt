@@ -1,7 +1,7 @@
 -- What `search` is handed at the needs of this crate, by the kind of function. Assumes nothing.
 use borrow.Author.Needs.{needs}
 use Rattle.lists.proofs.Filling.{fill-start, fill-more, fill-done}
-use Rattle.lines.proofs.Laying.{laid-start, laid-from, laid-room, laid-fits, laid-more, laid-done, names-laid, values-laid, models-laid}
+use Rattle.lines.proofs.Laying.{laid-start, laid-from, laid-room, laid-fits, laid-more, laid-done, names-laid, values-laid}
 use Rattle.lines.proofs.Laying.{numbered-room, numbered-wrote, last-room, last-wrote, outcome-room, outcome-wrote, row-room, row-wrote}
 use Rattle.lines.proofs.Laying.{between, behind-last, byte-fits, byte-at, byte-wrote, first-fits, first-room, second-from, second-room, both-fits, both-wrote}
 use Rattle.lines.proofs.Names.{name-spans, name-room, name-wrote}
@@ -13,7 +13,7 @@ pub ruleset naming = (name-spans, name-room, name-wrote, needs)
 pub ruleset ending = (between, behind-last, first-fits, byte-fits, byte-at, byte-wrote, needs)
 
 -- pieces, each placed behind the last
-pub ruleset laying = (names-laid, values-laid, models-laid, laid-start, laid-from, laid-room, laid-fits, laid-more, laid-done, needs)
+pub ruleset laying = (names-laid, values-laid, laid-start, laid-from, laid-room, laid-fits, laid-more, laid-done, needs)
 
 -- one text behind the other
 pub ruleset behind = (first-fits, first-room, second-from, second-room, both-fits, both-wrote, needs)

@@ -1,4 +1,3 @@
--- The lines that are written and printed, and what the routines of this crate answer.
+-- The lines that are printed of a word and numbers, and what the routines of this crate answer.
 pub mod Printed
-pub mod Summary
 pub mod Laying

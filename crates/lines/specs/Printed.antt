@@ -1,11 +1,8 @@
--- The lines that are printed: of names, of models, of an outcome, of a refusal. Assumes nothing.
-use mathlib.Core.List.{List, [], _∷_, _++_, map, flatMap}
+-- The lines that are printed of a word and numbers: of an outcome, of a refusal. Assumes nothing.
+use mathlib.Core.List.{List, [], _∷_, map}
 use Prim.Native.Nat.{ℕ}
 use Rattle.decimal.specs.Decimal.{decimal}
-use Rattle.program.specs.declared.Program.{Program}
-use Rattle.program.specs.Names.{namesOf}
-use Rattle.program.specs.Values.{wordValues}
-use Rattle.text.specs.Lines.{lineOf, namesLine, valuesLine}
+use Rattle.text.specs.Lines.{lineOf}
 use Rattle.program.specs.declared.Outcome.{Outcome}
 use Rattle.program.specs.declared.Outcome.the-variants.{Complete, Full, Spent, Refused}
 
@@ -30,14 +27,6 @@ numbered w v = worded w (v ∷ [])
 -- "If refused it prints only one such line, as "refused 7"."
 unfoldable pub refusedLine : ℕ → List ℕ
 refusedLine r = numbered refusedWord r
-
--- "a line of values 0 to 3 for each model"
-unfoldable pub modelLines : ℕ → List ℕ → List ℕ
-modelLines n ws = flatMap (λ w. valuesLine (wordValues n w)) ws
-
--- "the names line, a line of values 0 to 3 for each model"
-unfoldable pub listing : Program → List ℕ → List ℕ
-listing p ws = namesLine (namesOf p) ++ modelLines (p .«atom_count») ws
 
 -- "a last line of outcome, models written and nodes visited"
 unfoldable pub lastLine : Outcome → ℕ → ℕ → List ℕ

@@ -1,25 +1,20 @@
-// Lines of text at the front of a lent slice: of names, of numbers, of a word and numbers; the lines of models and of a summary.
+// One line of text at the front of a lent slice: of names, of numbers, of a word and numbers.
 ghost use mathlib.Core.Path.{_≡_};
 ghost use mathlib.Core.List.{[], _∷_, _++_};
-ghost use Prim.Native.Nat.{_/_, _%_, _≤_, _<_};
+ghost use Prim.Native.Nat.{_≤_, _<_};
 ghost use lib.ListN.{length, take};
 ghost use Rattle.sets.specs.Lists.{tabulate};
-ghost use Rattle.lists.specs.Bytes.{Wrote, oneIf};
+ghost use Rattle.lists.specs.Bytes.{Wrote};
 ghost use Rattle.program.specs.Names.{nameAt};
-ghost use Rattle.program.specs.Values.{valueIn, wordValues};
 ghost use Rattle.text.specs.Lines.{namesLine, valuesLine};
 ghost use Rattle.lines.specs.Laying.{separator, item, numberAt, Room, Spans};
-ghost use Rattle.lines.specs.Printed.{outcomeWord, numbered, refusedLine, modelLines, lastLine};
-ghost use Rattle.lines.specs.Summary.{bitAt, bitsLine, fourLines, flagAt, flagsLine};
+ghost use Rattle.lines.specs.Printed.{outcomeWord, numbered, refusedLine, lastLine};
 use program::Outcome;
 
 // What stands between items, and what ends a line.
 const SPACE: u8 = 32;
 
 const LINE_END: u8 = 10;
-
-// The most atoms of a table, so the most values of a word.
-const MOST_ATOMS: usize = 12;
 
 // ---- items
 // What stands behind the item before `i`: a space, or the line's end behind the last.
@@ -33,7 +28,7 @@ fn separator_of(i: usize, n: usize) -> u8
 }
 
 // The length of the name in place `i`.
-fn name_length(names: &[u8; 96], i: usize) -> usize
+fn name_length(names: &[u8; program::ALL_NAME_BYTES], i: usize) -> usize
     requires { ⌜ i < 12 ⌝ }
     ensures { λ r. ⌜ Spans (nameAt (now (names .entry)) i) 8 r ⌝ }
 {
@@ -44,7 +39,7 @@ fn name_length(names: &[u8; 96], i: usize) -> usize
 }
 
 // The name in place `i` at the front of `out`.
-fn put_name(out: &mut [u8], names: &[u8; 96], i: usize) -> usize
+fn put_name(out: &mut [u8], names: &[u8; program::ALL_NAME_BYTES], i: usize) -> usize
     requires { ⌜ (i < 12) × (length (nameAt (now names) i) ≤ length (now out)) ⌝ }
     ensures { λ r. ⌜ Wrote (nameAt (now (names .entry)) i) (now (out .entry)) r (now (out .exit)) ⌝ }
 {
@@ -56,7 +51,7 @@ fn put_name(out: &mut [u8], names: &[u8; 96], i: usize) -> usize
 }
 
 // The name in place `i`, the item `i` of `n` on its line, and what stands behind it.
-fn put_name_item(out: &mut [u8], names: &[u8; 96], i: usize, n: usize) -> usize
+fn put_name_item(out: &mut [u8], names: &[u8; program::ALL_NAME_BYTES], i: usize, n: usize) -> usize
     requires { ⌜ (i < 12) × (length (item (nameAt (now names)) n i) ≤ length (now out)) ⌝ }
     ensures { λ r. ⌜ Wrote (item (nameAt (now (names .entry))) n i) (now (out .entry)) r (now (out .exit)) ⌝ }
 {
@@ -77,7 +72,7 @@ fn put_number_item(out: &mut [u8], values: &[u64], i: usize, n: usize) -> usize
 
 // ---- lines of items
 // The names line of `n` atoms at the front of `out`, which has room for it; its length.
-pub fn put_names_line(out: &mut [u8], names: &[u8; 96], n: usize) -> usize
+pub fn put_names_line(out: &mut [u8], names: &[u8; program::ALL_NAME_BYTES], n: usize) -> usize
     requires { ⌜ Room n 12 (namesLine (tabulate (nameAt (now names)) n)) (now out) ⌝ }
     ensures { λ r. ⌜ Wrote (namesLine (tabulate (nameAt (now (names .entry))) n)) (now (out .entry)) r (now (out .exit)) ⌝ }
 {
@@ -173,159 +168,4 @@ pub fn put_last_line(out: &mut [u8], outcome: Outcome, m: u64, v: u64) -> usize
 {
     let values = [m, v];
     put_outcome(out, outcome, &values, 2)
-}
-
-// ---- the lines of models
-// The values of a word.
-fn word_values(w: u32) -> [u64; MOST_ATOMS]
-    ensures { λ r. ⌜ r ≡ tabulate (valueIn w) 12 ⌝ }
-{
-    let mut out = [0u64; MOST_ATOMS];
-    let mut i: usize = 0;
-    while i < MOST_ATOMS {
-        out[i] = program::value_in(w, i) as u64;
-        i += 1;
-    }
-    out
-}
-
-// The line of a model at the front of `out`.
-fn put_model_line(out: &mut [u8], w: u32, n: usize) -> usize
-    requires { ⌜ Room n 12 (valuesLine (wordValues n w)) (now out) ⌝ }
-    ensures { λ r. ⌜ Wrote (valuesLine (wordValues n w)) (now (out .entry)) r (now (out .exit)) ⌝ }
-{
-    let values = word_values(w);
-    put_values_line(out, &values, n)
-}
-
-// The lines of the first `m` words, each placed behind the last.
-fn put_model_lines(out: &mut [u8], models: &[u32], m: usize, n: usize) -> usize
-    requires { ⌜ (m ≤ length (now models)) × Room n 12 (modelLines n (take m (now models))) (now out) ⌝ }
-    ensures { λ r. ⌜ Wrote (modelLines n (take m (now (models .entry)))) (now (out .entry)) r (now (out .exit)) ⌝ }
-{
-    let mut at: usize = 0;
-    let mut k: usize = 0;
-    while k < m {
-        let l = put_model_line(&mut out[at..], models[k], n);
-        at = at + l;
-        k += 1;
-    }
-    at
-}
-
-// The names line, and the lines of the first `m` words behind it, at the front of `out`, which has room for them; their length.
-pub fn put_listing(out: &mut [u8], names: &[u8; 96], n: usize, models: &[u32], m: usize) -> usize
-    requires { ⌜ (m ≤ length (now models)) × Room n 12 (namesLine (tabulate (nameAt (now names)) n) ++ modelLines n (take m (now models))) (now out) ⌝ }
-    ensures { λ r. ⌜ Wrote (namesLine (tabulate (nameAt (now (names .entry))) n) ++ modelLines n (take m (now (models .entry)))) (now (out .entry)) r (now (out .exit)) ⌝ }
-{
-    let a = put_names_line(out, names, n);
-    let b = put_model_lines(&mut out[a..], models, m, n);
-    a + b
-}
-
-// ---- the lines of a summary
-// The bit of `x` that counts `k`.
-fn bit_of(x: u8, k: u64) -> u64
-    requires { ⌜ 1 ≤ k ⌝ }
-    ensures { λ r. ⌜ r ≡ x / k % 2 ⌝ }
-{
-    (x as u64) / k % 2
-}
-
-fn one_if(b: bool) -> u64
-    ensures { λ r. ⌜ r ≡ oneIf b ⌝ }
-{
-    if b { 1 } else { 0 }
-}
-
-// The bits that count `k`.
-fn bits_of(shown: &[u8; MOST_ATOMS], k: u64) -> [u64; MOST_ATOMS]
-    requires { ⌜ 1 ≤ k ⌝ }
-    ensures { λ r. ⌜ r ≡ tabulate (bitAt k (now (shown .entry))) 12 ⌝ }
-{
-    let mut out = [0u64; MOST_ATOMS];
-    let mut i: usize = 0;
-    while i < MOST_ATOMS {
-        out[i] = bit_of(shown[i], k);
-        i += 1;
-    }
-    out
-}
-
-// The flags, 1 for true.
-fn ones_of(flags: &[bool; MOST_ATOMS]) -> [u64; MOST_ATOMS]
-    ensures { λ r. ⌜ r ≡ tabulate (flagAt (now (flags .entry))) 12 ⌝ }
-{
-    let mut out = [0u64; MOST_ATOMS];
-    let mut i: usize = 0;
-    while i < MOST_ATOMS {
-        out[i] = one_if(flags[i]);
-        i += 1;
-    }
-    out
-}
-
-fn put_bits(out: &mut [u8], shown: &[u8; MOST_ATOMS], k: u64, n: usize) -> usize
-    requires { ⌜ (1 ≤ k) × Room n 12 (bitsLine k (now shown) n) (now out) ⌝ }
-    ensures { λ r. ⌜ Wrote (bitsLine k (now (shown .entry)) n) (now (out .entry)) r (now (out .exit)) ⌝ }
-{
-    let bits = bits_of(shown, k);
-    put_values_line(out, &bits, n)
-}
-
-fn put_flags(out: &mut [u8], flags: &[bool; MOST_ATOMS], n: usize) -> usize
-    requires { ⌜ Room n 12 (flagsLine (now flags) n) (now out) ⌝ }
-    ensures { λ r. ⌜ Wrote (flagsLine (now (flags .entry)) n) (now (out .entry)) r (now (out .exit)) ⌝ }
-{
-    let ones = ones_of(flags);
-    put_values_line(out, &ones, n)
-}
-
-fn put_two(out: &mut [u8], shown: &[u8; MOST_ATOMS], j: u64, k: u64, n: usize) -> usize
-    requires { ⌜ (1 ≤ j) × (1 ≤ k) × Room n 12 (bitsLine j (now shown) n ++ bitsLine k (now shown) n) (now out) ⌝ }
-    ensures { λ r. ⌜ Wrote (bitsLine j (now (shown .entry)) n ++ bitsLine k (now (shown .entry)) n) (now (out .entry)) r (now (out .exit)) ⌝ }
-{
-    let a = put_bits(out, shown, j, n);
-    let b = put_bits(&mut out[a..], shown, k, n);
-    a + b
-}
-
-fn put_four(out: &mut [u8], shown: &[u8; MOST_ATOMS], n: usize) -> usize
-    requires { ⌜ Room n 12 (fourLines (now shown) n) (now out) ⌝ }
-    ensures { λ r. ⌜ Wrote (fourLines (now (shown .entry)) n) (now (out .entry)) r (now (out .exit)) ⌝ }
-{
-    let a = put_two(out, shown, 1, 2, n);
-    let b = put_two(&mut out[a..], shown, 4, 8, n);
-    a + b
-}
-
-// The lines behind the names line.
-fn put_shown(
-    out: &mut [u8],
-    shown: &[u8; MOST_ATOMS],
-    flags: &[bool; MOST_ATOMS],
-    n: usize,
-) -> usize
-    requires { ⌜ Room n 12 (fourLines (now shown) n ++ flagsLine (now flags) n) (now out) ⌝ }
-    ensures { λ r. ⌜ Wrote (fourLines (now (shown .entry)) n ++ flagsLine (now (flags .entry)) n) (now (out .entry)) r (now (out .exit)) ⌝ }
-{
-    let a = put_four(out, shown, n);
-    let b = put_flags(&mut out[a..], flags, n);
-    a + b
-}
-
-// The names line, the four lines of the values 0 to 3, and the line of the flags, at the front of `out`, which has room for them; their length.
-pub fn put_summary(
-    out: &mut [u8],
-    names: &[u8; 96],
-    n: usize,
-    shown: &[u8; MOST_ATOMS],
-    flags: &[bool; MOST_ATOMS],
-) -> usize
-    requires { ⌜ Room n 12 (namesLine (tabulate (nameAt (now names)) n) ++ (fourLines (now shown) n ++ flagsLine (now flags) n)) (now out) ⌝ }
-    ensures { λ r. ⌜ Wrote (namesLine (tabulate (nameAt (now (names .entry))) n) ++ (fourLines (now (shown .entry)) n ++ flagsLine (now (flags .entry)) n)) (now (out .entry)) r (now (out .exit)) ⌝ }
-{
-    let a = put_names_line(out, names, n);
-    let b = put_shown(&mut out[a..], shown, flags, n);
-    a + b
 }

@@ -31,9 +31,9 @@ pub struct ClauseLines {
     pub broken: bool,
     pub zeros: bool,
     pub count: usize,
-    pub heads: [u32; 64],
-    pub bodies: [u32; 64],
-    pub nafs: [u32; 64],
+    pub heads: [u32; program::MOST_CLAUSES],
+    pub bodies: [u32; program::MOST_CLAUSES],
+    pub nafs: [u32; program::MOST_CLAUSES],
 }
 
 // The number up to 65535 that `s` is the decimal text of, 65536 for none.
@@ -113,9 +113,9 @@ fn gather(text: &[u8], from: usize, n: usize) -> ClauseLines
     let mut broken = false;
     let mut zeros = false;
     let mut count: usize = 0;
-    let mut heads = [0u32; 64];
-    let mut bodies = [0u32; 64];
-    let mut nafs = [0u32; 64];
+    let mut heads = [0u32; program::MOST_CLAUSES];
+    let mut bodies = [0u32; program::MOST_CLAUSES];
+    let mut nafs = [0u32; program::MOST_CLAUSES];
     let mut at = from;
     let mut e = lists::end_of(text, at, NEWLINE);
     while e < text.len() {

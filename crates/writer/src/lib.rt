@@ -29,12 +29,12 @@ fn clause_value(head: u32, body: u32, naf: u32, i: usize) -> u64
 }
 
 // The values of a clause.
-fn clause_values(head: u32, body: u32, naf: u32) -> [u64; 12]
+fn clause_values(head: u32, body: u32, naf: u32) -> [u64; program::MOST_ATOMS]
     ensures { λ r. ⌜ r ≡ clauseValues 12 (clauseOf head body naf) ⌝ }
 {
-    let mut out = [0u64; 12];
+    let mut out = [0u64; program::MOST_ATOMS];
     let mut i: usize = 0;
-    while i < 12 {
+    while i < program::MOST_ATOMS {
         out[i] = clause_value(head, body, naf, i);
         i += 1;
     }

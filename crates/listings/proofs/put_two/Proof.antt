@@ -1,9 +1,9 @@
--- `lines::put_two`: a line of bits, and another behind it, by the laws of one text behind the other. Assumes nothing.
+-- `listings::put_two`: a line of bits, and another behind it, by the laws of one text behind the other. Assumes nothing.
 use native.Mathlib.Omega.{arith}
 use Rattle.lines.proofs.Laying.{both-fits}
 use Rattle.lines.proofs.Rules.{behind}
-use Rattle.lines.proofs.put_two.Statement.{statement}
-use Rattle.lines.proofs.put_two.Tie as tie
+use Rattle.listings.proofs.put_two.Statement.{statement}
+use Rattle.listings.proofs.put_two.Tie as tie
 
 add-result : tie.Need-add-result
 add-result c =

@@ -1,10 +1,10 @@
--- `lines::bits_of`: the loop keeps `Filled`: the first `i` bits stand in the array. Assumes nothing.
+-- `listings::bits_of`: the loop keeps `Filled`: the first `i` bits stand in the array. Assumes nothing.
 use Prim.Native.Nat.{_-_}
 use Rattle.lists.proofs.Filling.{Filled}
-use Rattle.lines.specs.Summary.{bitAt}
+use Rattle.listings.specs.Summary.{bitAt}
 use Rattle.lines.proofs.Rules.{filling}
-use Rattle.lines.proofs.bits_of.Statement.{statement}
-use Rattle.lines.proofs.bits_of.Tie as tie
+use Rattle.listings.proofs.bits_of.Statement.{statement}
+use Rattle.listings.proofs.bits_of.Tie as tie
 
 abbrev Inv-loop : tie.InvT-loop
 Inv-loop shown k out₀ i₀ out i = Filled (bitAt k shown) 0 12 i out

@@ -1,10 +1,10 @@
--- `lines::ones_of`: the loop keeps `Filled`: the first `i` flags stand in the array. Assumes nothing.
+-- `listings::ones_of`: the loop keeps `Filled`: the first `i` flags stand in the array. Assumes nothing.
 use Prim.Native.Nat.{_-_}
 use Rattle.lists.proofs.Filling.{Filled}
-use Rattle.lines.specs.Summary.{flagAt}
+use Rattle.listings.specs.Summary.{flagAt}
 use Rattle.lines.proofs.Rules.{filling}
-use Rattle.lines.proofs.ones_of.Statement.{statement}
-use Rattle.lines.proofs.ones_of.Tie as tie
+use Rattle.listings.proofs.ones_of.Statement.{statement}
+use Rattle.listings.proofs.ones_of.Tie as tie
 
 abbrev Inv-loop : tie.InvT-loop
 Inv-loop flags out₀ i₀ out i = Filled (flagAt flags) 0 12 i out

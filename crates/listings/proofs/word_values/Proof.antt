@@ -1,10 +1,10 @@
--- `lines::word_values`: the loop keeps `Filled`: the first `i` values stand in the array. Assumes nothing.
+-- `listings::word_values`: the loop keeps `Filled`: the first `i` values stand in the array. Assumes nothing.
 use Prim.Native.Nat.{_-_}
 use Rattle.program.specs.Values.{valueIn}
 use Rattle.lists.proofs.Filling.{Filled}
 use Rattle.lines.proofs.Rules.{filling}
-use Rattle.lines.proofs.word_values.Statement.{statement}
-use Rattle.lines.proofs.word_values.Tie as tie
+use Rattle.listings.proofs.word_values.Statement.{statement}
+use Rattle.listings.proofs.word_values.Tie as tie
 
 abbrev Inv-loop : tie.InvT-loop
 Inv-loop w out₀ i₀ out i = Filled (valueIn w) 0 12 i out

@@ -1,9 +1,0 @@
--- `lines::put_model_line`: the line is that of the first values of the array that was filled. Assumes nothing.
-use Rattle.program.specs.Values.{wordValues}
-use Rattle.lines.proofs.Rules.{rows}
-use Rattle.lines.proofs.put_model_line.Statement.{statement}
-use Rattle.lines.proofs.put_model_line.Tie as tie
-
-pub put-model-line-spec : {M : Type 1} → statement M
-unfolding wordValues
-put-model-line-spec = tie.close (tie.spec (λ c. search rows) (λ c. search rows) (λ c. search rows) (λ c. search rows) (λ c. search rows))

@@ -1,0 +1,21 @@
+-- `listings::put_model_lines`: the loop keeps `Laid`: the lines of the first `k` words stand there. Assumes nothing.
+use Prim.Native.Nat.{_-_}
+use lib.ListN.{take}
+use Rattle.listings.specs.Listing.{modelLines}
+use Rattle.lines.proofs.Laying.{Laid}
+use Rattle.listings.proofs.Models.{modelAt}
+use Rattle.listings.proofs.Rules.{placing}
+use Rattle.listings.proofs.put_model_lines.Statement.{statement}
+use Rattle.listings.proofs.put_model_lines.Tie as tie
+
+abbrev Inv-loop : tie.InvT-loop
+Inv-loop out₀ models m n at₀ k₀ out at k = Laid (modelAt n models) m (modelLines n (take m models)) out₀ at out k
+
+abbrev μ-loop : tie.MeasureT-loop
+μ-loop out₀ models m n at₀ k₀ out at k = m - k
+
+pub put-model-lines-spec : {M : Type 1} → statement M
+put-model-lines-spec = tie.close (tie.spec
+    Inv-loop μ-loop (λ c. search placing) (λ c. search placing) (λ c. search placing) (λ c. search placing) (λ c. search placing) (λ c. search placing)
+    (λ c. search placing) (λ c. search placing) (λ c. search placing) (λ c. search placing) (λ c. search placing) (λ c. search placing)
+    (λ c. search placing))
