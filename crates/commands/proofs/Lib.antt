@@ -1,5 +1,3 @@
 -- The laws of what is printed, and what follows of it.
 pub mod Printing
-pub mod Texts
 pub mod Outputs
-pub mod Rules

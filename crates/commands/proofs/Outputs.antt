@@ -6,10 +6,11 @@ use Rattle.text.specs.Refusals.{refusal}
 use Rattle.text.specs.Reading.{readOf, IsAccepted}
 use Rattle.text.proofs.RoundTrip.{refused, written-back}
 use Rattle.lines.specs.Printed.{refusedLine}
+use Rattle.printing.specs.Texts.{unlessRefused, allowance}
 use Rattle.commands.specs.declared.Command.{Command}
 use Rattle.commands.specs.declared.Command.the-variants.{Search, Write}
-use Rattle.commands.specs.Printing.{unlessRefused, printed}
-use Rattle.commands.specs.Commands.{allowance, textOf, output, reportOf}
+use Rattle.commands.specs.Printing.{printed}
+use Rattle.commands.specs.Commands.{textOf, output, reportOf}
 
 -- A search with the report's numbers prints the report.
 pub search-is-report : (ns bs b : List ℕ) → output (Search allowance 4096) ns bs b ≡ reportOf b

@@ -20,10 +20,14 @@ use Rattle.text.specs.Reading.{readOf, IsAccepted}
 use Rattle.text.specs.Render.{render}
 use Rattle.text.proofs.RoundTrip as trip
 use Rattle.lines.specs.Printed.{refusedLine}
+use Rattle.printing.specs.Ready.{mostBytes, Ready}
+use Rattle.printing.specs.Texts.{unlessRefused, checkText, lentList, searchText, allowance}
+use Rattle.fixing.specs.Texts.{workSlice, fixpointText}
+use Rattle.summing.specs.Texts.{summaryText}
 use Rattle.commands.specs.declared.Command.{Command}
 use Rattle.commands.specs.declared.Command.the-variants as command
-use Rattle.commands.specs.Printing.{unlessRefused, printed, mostBytes, Prints, Ready}
-use Rattle.commands.specs.Commands.{checkText, lentList, searchText, workSlice, fixpointText, summaryText, allowance, textOf, output, reportOf}
+use Rattle.commands.specs.Printing.{printed, Prints}
+use Rattle.commands.specs.Commands.{textOf, output, reportOf}
 
 -- ---- a slice without room, and one with room
 module _ (t xs : List ℕ) where

@@ -2,10 +2,10 @@
 ghost use Rattle.io.specs.Counts.{Counts};
 use commands::Command;
 use commands::MOST_BYTES;
-use commands::MOST_PLACES;
-use commands::MOST_WORDS;
-use commands::NODE_LIMIT;
+use fixing::MOST_WORDS;
 use libc::STDOUT_FILENO;
+use printing::MOST_PLACES;
+use printing::NODE_LIMIT;
 
 // The book's bytes at the start of `book`; their number.
 fn read(path: &[u8], book: &mut [u8]) -> usize

@@ -1,12 +1,12 @@
 // pstable: a word of the command line is run on the book from standard input.
 use commands::Command;
 use commands::MOST_BYTES;
-use commands::MOST_PLACES;
-use commands::MOST_WORDS;
 use decimal::Parsed;
+use fixing::MOST_WORDS;
 use libc::STDERR_FILENO;
 use libc::STDIN_FILENO;
 use libc::STDOUT_FILENO;
+use printing::MOST_PLACES;
 
 // What a command line asks for.
 enum Asked {

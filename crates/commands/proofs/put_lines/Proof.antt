@@ -1,8 +1,0 @@
--- `commands::put_lines` meets its contract: the lines of a summary have room. Assumes nothing.
-use borrow.Author.Needs.{needs}
-use Rattle.commands.proofs.Rules.{sums}
-use Rattle.commands.proofs.put_lines.Statement.{statement}
-use Rattle.commands.proofs.put_lines.Tie as tie
-
-pub put-lines-spec : {M : Type 1} → statement M
-put-lines-spec = tie.close (tie.spec (λ c. search sums) (λ c. search needs) (λ c. search sums))

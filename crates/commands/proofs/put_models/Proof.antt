@@ -1,8 +1,0 @@
--- `commands::put_models` meets its contract: the listing of a table that was read has room, and all the words are listed. Assumes nothing.
-use borrow.Author.Needs.{needs}
-use Rattle.commands.proofs.Rules.{lines}
-use Rattle.commands.proofs.put_models.Statement.{statement}
-use Rattle.commands.proofs.put_models.Tie as tie
-
-pub put-models-spec : {M : Type 1} → statement M
-put-models-spec = tie.close (tie.spec (λ c. search lines) (λ c. search needs) (λ c. search lines))

@@ -1,8 +1,0 @@
--- `commands::put_refused` meets its contract: the line of a number of one byte is shorter than the slice. Assumes nothing.
-use borrow.Author.Needs.{needs}
-use Rattle.commands.proofs.Rules.{lines}
-use Rattle.commands.proofs.put_refused.Statement.{statement}
-use Rattle.commands.proofs.put_refused.Tie as tie
-
-pub put-refused-spec : {M : Type 1} → statement M
-put-refused-spec = tie.close (tie.spec (λ c. search lines) (λ c. search needs) (λ c. search lines))

@@ -1,8 +1,0 @@
--- `commands::put_written` meets its contract: with room for its text the writer never refuses a table that was read. Assumes nothing.
-use borrow.Author.Needs.{needs}
-use Rattle.commands.proofs.Rules.{writes}
-use Rattle.commands.proofs.put_written.Statement.{statement}
-use Rattle.commands.proofs.put_written.Tie as tie
-
-pub put-written-spec : {M : Type 1} → statement M
-put-written-spec = tie.close (tie.spec (λ c. search needs) (λ c. search needs) (λ c. search needs) (λ c. search needs) (λ c. search writes) (λ c. search needs) (λ c. search writes))

@@ -1,0 +1,2 @@
+-- What `fixpoint` says of a table.
+pub mod Texts

@@ -1,0 +1,33 @@
+-- What `fixpoint` says of a table, as a definition of the table and of the numbers behind the word. Assumes nothing.
+use mathlib.Core.List.{List, _++_}
+use Prim.Native.Nat.{ℕ, min}
+use lib.ListN.{take, replicate}
+use Rattle.program.specs.declared.Program.{Program}
+use Rattle.program.specs.declared.Outcome.{Outcome}
+use Rattle.program.specs.declared.Outcome.the-variants as outcome
+use Rattle.fixpoint.specs.declared.FixpointAnswer.{FixpointAnswer}
+use Rattle.fixpoint.specs.Answer as fixed
+use Rattle.lines.specs.Printed.{outcomeWord, numbered, refusedLine}
+use Rattle.listings.specs.Listing.{listing}
+
+-- "If refused it prints only one such line": the text t where the outcome is no refusal
+unfoldable pub unlessEnded : Outcome → List ℕ → List ℕ
+unlessEnded outcome.Complete t = t
+unlessEnded outcome.Full t = t
+unlessEnded outcome.Spent t = t
+unlessEnded (outcome.Refused n) t = refusedLine n
+
+-- ---- fixpoint PLACES CAPACITY: "the names line, model lines, then outcome and models written"
+-- each working slice: "capacity to 65,536 words", and more count as 65,536
+abbrev pub workSlice : ℕ → List ℕ
+workSlice capacity = replicate (min capacity 65536) 0
+
+-- of the words ws that are listed, with the outcome o and m written
+unfoldable pub fixedText : Program → List ℕ → Outcome → ℕ → List ℕ
+fixedText p ws o m = unlessEnded o (listing p ws ++ numbered (outcomeWord o) m)
+
+-- of a fixpoint with the lent list l and the working slices w and v
+unfoldable pub fixpointText : List ℕ → List ℕ → List ℕ → Program → List ℕ
+fixpointText l w v p =
+    let a = fixed.answerOf p l w v in
+    fixedText p (take (a .written) (fixed.exitOf p l w v)) (a .outcome) (a .written)

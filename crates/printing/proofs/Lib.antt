@@ -1,0 +1,3 @@
+-- The laws of what each word says of a table.
+pub mod Texts
+pub mod Rules

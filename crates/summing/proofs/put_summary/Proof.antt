@@ -1,0 +1,8 @@
+-- `summing::put_summary` meets its contract: the summary is of the words that the search wrote. Assumes nothing.
+use borrow.Author.Needs.{needs}
+use Rattle.summing.proofs.Rules.{sums}
+use Rattle.summing.proofs.put_summary.Statement.{statement}
+use Rattle.summing.proofs.put_summary.Tie as tie
+
+pub put-summary-spec : {M : Type 1} → statement M
+put-summary-spec = tie.close (tie.spec (λ c. search needs) (λ c. search needs) (λ c. search sums) (λ c. search sums) (λ c. search sums) (λ c. search needs) (λ c. search sums))

@@ -1,0 +1,2 @@
+-- What `summary` says of a table.
+pub mod Texts
