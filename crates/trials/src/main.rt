@@ -17,23 +17,27 @@ enum Family {
     Rooms,
 }
 
-fn ask(family: Family, text: &[u8], words: Words) -> Tried {
+// What is refused, at both sides of its edge.
+fn agrees_at_edge(family: Family, text: &[u8], words: Words) -> bool {
+    let first = records::first_of(words);
     match family {
-        Family::Texts => answers::tried_if(families::texts::agrees(text)),
-        Family::Searches => answers::tried_if(families::searches::agrees(text, words)),
-        Family::Fixpoints => families::fixpoints::tried(text, words),
-        Family::Candidates => answers::tried_if(families::candidates::agrees(text, words)),
-        Family::Refusals => answers::tried_if(edges::refusals::agrees(
-            text,
-            records::first_of(words),
-        )),
-        Family::Tables => answers::tried_if(edges::tables::agrees(text, words)),
-        Family::Vocabulary => answers::tried_if(edges::vocabulary::agrees(
-            text,
-            records::first_of(words),
-        )),
-        Family::Rooms => answers::tried_if(edges::rooms::agrees(text, records::first_of(words))),
+        Family::Refusals => edges::refusals::agrees(text, first),
+        Family::Tables => edges::tables::agrees(text, words),
+        Family::Vocabulary => edges::vocabulary::agrees(text, first),
+        _ => edges::rooms::agrees(text, first),
     }
+}
+
+// The books with stored models are put to each call.
+fn ask(family: Family, text: &[u8], words: Words) -> Tried {
+    let agrees = match family {
+        Family::Fixpoints => return families::fixpoints::tried(text, words),
+        Family::Texts => families::texts::agrees(text),
+        Family::Searches => families::searches::agrees(text, words),
+        Family::Candidates => families::candidates::agrees(text, words),
+        _ => agrees_at_edge(family, text, words),
+    };
+    answers::tried_if(agrees)
 }
 
 // A record that the file's end cuts disagrees.
@@ -104,37 +108,49 @@ fn try_calls(file: &[u8]) -> bool {
         && try_family(b"  candidates checked", Family::Candidates, file)
 }
 
-fn try_books(path: &[u8]) -> bool {
-    records::print(path);
-    records::print(b"\n");
-    let mut file = [0u8; 524288];
-    let n = records::read(path, &mut file);
-    try_calls(&file[..n])
+// What the records of a file are put to: each call, or one family.
+enum Asked {
+    Calls,
+    Once(Family),
 }
 
-fn try_file(name: &[u8], family: Family) -> bool {
-    let mut file = [0u8; 524288];
-    let n = records::read(name, &mut file);
-    try_family(name, family, &file[..n])
+fn try_records(path: &[u8], asked: Asked, file: &[u8]) -> bool {
+    match asked {
+        Asked::Calls => {
+            records::print(path);
+            records::print(b"\n");
+            try_calls(file)
+        }
+        Asked::Once(family) => try_family(path, family, file),
+    }
+}
+
+// A file has room for the solver's books, the largest.
+fn try_file(path: &[u8], asked: Asked) -> bool {
+    let mut file = [0u8; 262144];
+    let n = records::read(path, &mut file);
+    try_records(path, asked, &file[..n])
+}
+
+// Document 01's samples, the paper's examples, and random books with the models that an outside solver gives.
+fn try_models() -> bool {
+    try_file(b"samples", Asked::Calls)
+        && try_file(b"paper", Asked::Calls)
+        && try_file(b"solver", Asked::Calls)
+}
+
+// What is refused, at both sides of its edge.
+fn try_refused() -> bool {
+    try_file(b"refusals", Asked::Once(Family::Refusals))
+        && try_file(b"tables", Asked::Once(Family::Tables))
+        && try_file(b"vocabulary", Asked::Once(Family::Vocabulary))
+        && try_file(b"rooms", Asked::Once(Family::Rooms))
 }
 
 // The numbers of nodes that document 01 gives.
 fn try_nodes() -> bool {
     families::searches::has_nodes(b"a\n", 7)
         && families::searches::has_nodes(b"fell due\n1 0\n2 0\n16 1\n", 23)
-}
-
-// Document 01's samples, the paper's examples, and random books with the models that an outside solver gives.
-fn try_models() -> bool {
-    try_books(b"samples") && try_books(b"paper") && try_books(b"solver")
-}
-
-// What is refused, at both sides of its edge.
-fn try_refused() -> bool {
-    try_file(b"refusals", Family::Refusals)
-        && try_file(b"tables", Family::Tables)
-        && try_file(b"vocabulary", Family::Vocabulary)
-        && try_file(b"rooms", Family::Rooms)
 }
 
 fn main() {
