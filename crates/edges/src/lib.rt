@@ -3,3 +3,23 @@ pub mod refusals;
 pub mod rooms;
 pub mod tables;
 pub mod vocabulary;
+
+use records::Words;
+
+// What is refused, a file of records for each.
+pub enum Edge {
+    Refusals,
+    Tables,
+    Vocabulary,
+    Rooms,
+}
+
+pub fn agrees(edge: Edge, text: &[u8], words: Words) -> bool {
+    let first = records::first_of(words);
+    match edge {
+        Edge::Refusals => refusals::agrees(text, first),
+        Edge::Tables => tables::agrees(text, words),
+        Edge::Vocabulary => vocabulary::agrees(text, first),
+        Edge::Rooms => rooms::agrees(text, first),
+    }
+}

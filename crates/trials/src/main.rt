@@ -1,41 +1,27 @@
 // Tries the engine from outside, by its public calls alone: a line for each family says how many were tried and how many agree.
-// A family is a file of records; what is asked of a record stands in `families`, and how a record is read in `records`.
+// A family is a file of records; what is asked of a record stands in `families` and `edges`, and how a record is read in `records`.
 // The first disagreement is printed with both answers and its label, and ends the program.
 use answers::Tried;
+use edges::Edge;
 use records::Record;
 use records::Words;
 
-// What is asked of each record of a file.
+// What is asked of each record of a file: one of the calls on a book with stored models, or what is refused.
 enum Family {
     Texts,
     Searches,
     Fixpoints,
     Candidates,
-    Refusals,
-    Tables,
-    Vocabulary,
-    Rooms,
+    Edge(Edge),
 }
 
-// What is refused, at both sides of its edge.
-fn agrees_at_edge(family: Family, text: &[u8], words: Words) -> bool {
-    let first = records::first_of(words);
-    match family {
-        Family::Refusals => edges::refusals::agrees(text, first),
-        Family::Tables => edges::tables::agrees(text, words),
-        Family::Vocabulary => edges::vocabulary::agrees(text, first),
-        _ => edges::rooms::agrees(text, first),
-    }
-}
-
-// The books with stored models are put to each call.
 fn ask(family: Family, text: &[u8], words: Words) -> Tried {
     let agrees = match family {
         Family::Fixpoints => return families::fixpoints::tried(text, words),
         Family::Texts => families::texts::agrees(text),
         Family::Searches => families::searches::agrees(text, words),
         Family::Candidates => families::candidates::agrees(text, words),
-        _ => agrees_at_edge(family, text, words),
+        Family::Edge(edge) => edges::agrees(edge, text, words),
     };
     answers::tried_if(agrees)
 }
@@ -108,10 +94,10 @@ fn try_calls(file: &[u8]) -> bool {
         && try_family(b"  candidates checked", Family::Candidates, file)
 }
 
-// What the records of a file are put to: each call, or one family.
+// What the records of a file are put to.
 enum Asked {
     Calls,
-    Once(Family),
+    Edge(Edge),
 }
 
 fn try_records(path: &[u8], asked: Asked, file: &[u8]) -> bool {
@@ -121,11 +107,11 @@ fn try_records(path: &[u8], asked: Asked, file: &[u8]) -> bool {
             records::print(b"\n");
             try_calls(file)
         }
-        Asked::Once(family) => try_family(path, family, file),
+        Asked::Edge(edge) => try_family(path, Family::Edge(edge), file),
     }
 }
 
-// A file has room for the solver's books, the largest.
+// The largest file, the solver's books, has 237,618 bytes.
 fn try_file(path: &[u8], asked: Asked) -> bool {
     let mut file = [0u8; 262144];
     let n = records::read(path, &mut file);
@@ -141,10 +127,10 @@ fn try_models() -> bool {
 
 // What is refused, at both sides of its edge.
 fn try_refused() -> bool {
-    try_file(b"refusals", Asked::Once(Family::Refusals))
-        && try_file(b"tables", Asked::Once(Family::Tables))
-        && try_file(b"vocabulary", Asked::Once(Family::Vocabulary))
-        && try_file(b"rooms", Asked::Once(Family::Rooms))
+    try_file(b"refusals", Asked::Edge(Edge::Refusals))
+        && try_file(b"tables", Asked::Edge(Edge::Tables))
+        && try_file(b"vocabulary", Asked::Edge(Edge::Vocabulary))
+        && try_file(b"rooms", Asked::Edge(Edge::Rooms))
 }
 
 // The numbers of nodes that document 01 gives.
