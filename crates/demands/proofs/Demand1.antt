@@ -14,7 +14,7 @@ use Rattle.sets.proofs.Lists.{each-++}
 use Rattle.lists.specs.Bytes.{oneIf}
 use Rattle.program.specs.declared.Program.{Program}
 use Rattle.program.specs.Clauses.{Clause, rows, clauses}
-use Rattle.program.specs.Refusals.{lowest, Applies, Lowest}
+use Rattle.program.specs.Refusals.{lowest, Applies, Lowest, ofOutcome}
 use Rattle.program.proofs.Lowest.{rises, none-lowest, lowest-is, one-lowest}
 use Rattle.program.specs.declared.Verdict.{Verdict}
 use Rattle.program.specs.declared.Verdict.the-variants.{Accepted, Refused}
@@ -37,7 +37,7 @@ use Rattle.search.specs.Answer.{answer, leafOf, nodesOf, overfull, fullAt, runA
 use Rattle.search.specs.Answer as searching
 use Rattle.fixpoint.specs.Answer.{roomOf}
 use Rattle.fixpoint.specs.Answer as fixing
-use Rattle.demands.specs.Demand1.{Lent, Told, Call, read, write, check, summarize, search, fixpoint, told, Answers, numbersOf, ofWritten, ofChecked, ofOutcome, Demand1}
+use Rattle.demands.specs.Demand1.{Lent, Told, Call, read, write, check, summarize, search, fixpoint, told, Answers, numbersOf, ofWritten, ofChecked, Demand1}
 
 not-both : {A : Type 0} {v : Verdict} {n : ℕ} → v ≡ Accepted → v ≡ Refused n → A
 not-both a b = absurd (let z : _≡_ {A = ℕ} 0 1 = cc in omega arith)

@@ -11,7 +11,7 @@ use Rattle.sets.specs.Lists.{Each}
 use Rattle.lists.specs.Bytes.{oneIf}
 use Rattle.program.specs.declared.Program.{Program}
 use Rattle.program.specs.Valid.{valid, Sized}
-use Rattle.program.specs.Refusals.{Applies, Lowest}
+use Rattle.program.specs.Refusals.{Applies, Lowest, ofOutcome}
 use Rattle.program.specs.declared.Verdict.{Verdict}
 use Rattle.program.specs.declared.Verdict.the-variants.{Accepted, Refused}
 use Rattle.text.specs.declared.Read.{Read}
@@ -27,8 +27,6 @@ use Rattle.stable.specs.Check as checking
 use Rattle.summary.specs.declared.Summary.{Summary}
 use Rattle.summary.specs.Summary.{summaryOf}
 use Rattle.summary.specs.Summary as summing
-use Rattle.program.specs.declared.Outcome.{Outcome}
-use Rattle.program.specs.declared.Outcome.the-variants as outcome
 use Rattle.search.specs.declared.SearchAnswer.{SearchAnswer}
 use Rattle.search.specs.Answer.{Searches}
 use Rattle.search.specs.Answer as searching
@@ -55,7 +53,7 @@ pub record Told : Type 1 where
   pub lent : List Lent
   pub free : List Lent
 
--- the verdict of each kind of answer
+-- the verdict of each kind of answer; that of an outcome is `ofOutcome`
 abbrev pub ofWritten : Written → Verdict
 ofWritten (written.Refused n) = Refused n
 ofWritten (written.Length n) = Accepted
@@ -65,12 +63,6 @@ ofChecked (checked.Refused n) = Refused n
 ofChecked (checked.Violated k) = Accepted
 ofChecked (checked.Smaller j) = Accepted
 ofChecked checked.Stable = Accepted
-
-abbrev pub ofOutcome : Outcome → Verdict
-ofOutcome (outcome.Refused n) = Refused n
-ofOutcome outcome.Complete = Accepted
-ofOutcome outcome.Full = Accepted
-ofOutcome outcome.Spent = Accepted
 
 -- every number of a table
 abbrev pub numbersOf : Program → List ℕ

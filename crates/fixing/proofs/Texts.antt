@@ -25,6 +25,7 @@ use Rattle.lines.proofs.Bounds.{numbered-most, outcome-most}
 use Rattle.printing.specs.Ready.{Lent}
 use Rattle.printing.specs.Texts.{lentList}
 use Rattle.printing.proofs.Texts.{zeros, cut-zeros}
+use Rattle.printing.specs.Texts.{unlessRefused}
 use Rattle.fixing.specs.Texts.{unlessEnded, workSlice, fixedText, fixpointText}
 
 -- ---- the line of the outcome
@@ -40,7 +41,7 @@ fixpoint-cut k j r q p xs m ys e f w =
 
 -- ---- a refusal, or the models and the line of the outcome
 no-refusal : (o : Outcome) → OneOf (0 ∷ 1 ∷ 2 ∷ []) (tagOf the-type o) → (t : List ℕ) → unlessEnded o t ≡ t
-unfolding unlessEnded
+unfolding unlessEnded unlessRefused
 no-refusal outcome.Complete h t = refl
 no-refusal outcome.Full h t = refl
 no-refusal outcome.Spent h t = refl
@@ -50,7 +51,7 @@ no-refusal (outcome.Refused n) (inr (inr e)) t = absurd (omega arith)
 
 module _ (p : Program) (ws : List ℕ) (o : Outcome) (m : ℕ) (xs : List ℕ) (r : ℕ) (ys : List ℕ) where
   pub fixed-refused : (n : ℕ) → o ≡ outcome.Refused n → Wrote (refusedLine n) xs r ys → Wrote (fixedText p ws o m) xs r ys
-  unfolding fixedText unlessEnded
+  unfolding fixedText unlessEnded unlessRefused
   fixed-refused n e h = rw e h
 
   -- in the arm of the outcomes that are no refusal

@@ -4,18 +4,16 @@ use Prim.Native.Nat.{ℕ, min}
 use lib.ListN.{take, replicate}
 use Rattle.program.specs.declared.Program.{Program}
 use Rattle.program.specs.declared.Outcome.{Outcome}
-use Rattle.program.specs.declared.Outcome.the-variants as outcome
+use Rattle.program.specs.Refusals.{ofOutcome}
 use Rattle.fixpoint.specs.declared.FixpointAnswer.{FixpointAnswer}
 use Rattle.fixpoint.specs.Answer as fixed
-use Rattle.lines.specs.Printed.{outcomeWord, numbered, refusedLine}
+use Rattle.lines.specs.Printed.{outcomeWord, numbered}
 use Rattle.listings.specs.Listing.{listing}
+use Rattle.printing.specs.Texts.{unlessRefused}
 
 -- "If refused it prints only one such line": the text t where the outcome is no refusal
 unfoldable pub unlessEnded : Outcome → List ℕ → List ℕ
-unlessEnded outcome.Complete t = t
-unlessEnded outcome.Full t = t
-unlessEnded outcome.Spent t = t
-unlessEnded (outcome.Refused n) t = refusedLine n
+unlessEnded o t = unlessRefused (ofOutcome o) t
 
 -- ---- fixpoint PLACES CAPACITY: "the names line, model lines, then outcome and models written"
 -- each working slice: "capacity to 65,536 words", and more count as 65,536

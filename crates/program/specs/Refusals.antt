@@ -23,13 +23,14 @@ pub record Lowest (ts : List (ℕ × Bool)) (n : ℕ) : Type 0 where
   pub applies : Applies ts n
   pub least : (m : ℕ) → Applies ts m → n ≤ m
 
--- "A refusal carries its number": the number of a verdict, 0 where the input is accepted; of an outcome, 0 where it is none
+-- "A refusal carries its number": the number of a verdict, 0 where the input is accepted
 abbrev pub refusedBy : Verdict → ℕ
 refusedBy verdict.Accepted = 0
 refusedBy (verdict.Refused n) = n
 
-unfoldable pub endedBy : Outcome → ℕ
-endedBy outcome.Complete = 0
-endedBy outcome.Full = 0
-endedBy outcome.Spent = 0
-endedBy (outcome.Refused n) = n
+-- the verdict of an outcome
+abbrev pub ofOutcome : Outcome → Verdict
+ofOutcome outcome.Complete = verdict.Accepted
+ofOutcome outcome.Full = verdict.Accepted
+ofOutcome outcome.Spent = verdict.Accepted
+ofOutcome (outcome.Refused n) = verdict.Refused n

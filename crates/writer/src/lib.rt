@@ -16,7 +16,7 @@ use program::Program;
 use text::Written;
 
 // A text of more bytes is no book, and no table has one so long.
-const MOST_BYTES: usize = 4096;
+const TEXT_BYTES: usize = 4096;
 
 // The value of atom `i` in a clause.
 fn clause_value(head: u32, body: u32, naf: u32, i: usize) -> u64
@@ -86,7 +86,7 @@ fn text_length(p: Program) -> usize
     requires { ⌜ valid p ≡ true ⌝ }
     ensures { λ r. ⌜ r ≡ length (render p) ⌝ }
 {
-    let mut room = [0u8; MOST_BYTES];
+    let mut room = [0u8; TEXT_BYTES];
     put_text(p, &mut room)
 }
 
