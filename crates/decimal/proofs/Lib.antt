@@ -1,4 +1,3 @@
 -- The laws that the other crates cite.
 pub mod Laws
 pub mod Reading
-pub mod Rules

@@ -32,9 +32,9 @@ use Rattle.summary.specs.Summary as summing
 use Rattle.summary.proofs.Meaning as meaning
 use Rattle.program.specs.declared.Outcome.the-variants.{Complete, Full, Spent}
 use Rattle.program.specs.declared.Outcome.the-variants as outcome
-use Rattle.search.specs.Tree.{hits}
-use Rattle.search.specs.Answer.{answer, leafOf, nodesOf, overfull, fullAt, runAnswer}
-use Rattle.search.specs.Answer as searching
+use Rattle.tree.specs.Tree.{hits}
+use Rattle.tree.specs.Answer.{answer, leafOf, nodesOf, overfull, fullAt, runAnswer}
+use Rattle.tree.specs.Answer as searching
 use Rattle.fixpoint.specs.Answer.{roomOf}
 use Rattle.fixpoint.specs.Answer as fixing
 use Rattle.demands.specs.Demand1.{Lent, Told, Call, read, write, check, summarize, search, fixpoint, told, Answers, numbersOf, ofWritten, ofChecked, Demand1}

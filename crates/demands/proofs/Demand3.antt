@@ -15,8 +15,8 @@ use Rattle.program.specs.Clauses.{clauses}
 use Rattle.program.specs.Valid.{valid}
 use Rattle.stable.proofs.Decides as decides
 use Rattle.program.specs.declared.Outcome.the-variants.{Complete, Refused}
-use Rattle.search.specs.Answer.{listed as searchListed}
-use Rattle.search.proofs.Runs as searches
+use Rattle.tree.specs.Answer.{listed as searchListed}
+use Rattle.tree.proofs.Runs as searches
 use Rattle.fixpoint.specs.Answer.{refused as fixedRefused}
 use Rattle.demands.specs.Demand3.{Run, searched, fixed, lent, outcome, written, exit, visited, listed, allModels, AllModels, ByRoute, OneRun, TwoRuns, Demand3}
 use Rattle.demands.proofs.Outcomes.{refused-complete}

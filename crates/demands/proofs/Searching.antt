@@ -14,10 +14,10 @@ use Rattle.sets.proofs.Least.{least-hit, least-miss}
 use Rattle.program.specs.declared.Program.{Program}
 use Rattle.program.specs.Valid.{valid}
 use Rattle.program.specs.declared.Outcome.the-variants.{Complete, Full, Spent}
-use Rattle.search.specs.declared.SearchAnswer.{SearchAnswer}
-use Rattle.search.specs.Tree.{Node, hits}
-use Rattle.search.specs.Answer.{answer, nodesOf, leafOf, overfull, fullAt, runAnswer, answerOf, exitOf, listed}
-use Rattle.search.proofs.Runs as runs
+use Rattle.tree.specs.declared.SearchAnswer.{SearchAnswer}
+use Rattle.tree.specs.Tree.{Node, hits}
+use Rattle.tree.specs.Answer.{answer, nodesOf, leafOf, overfull, fullAt, runAnswer, answerOf, exitOf, listed}
+use Rattle.tree.proofs.Runs as runs
 use Rattle.demands.specs.Demand3.{outcome, written, visited, allModels, leavesIn, N, BySearch}
 use Rattle.demands.proofs.Outcomes.{full-spent, full-complete, spent-complete, refused-full, refused-spent, refused-complete}
 

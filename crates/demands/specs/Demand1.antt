@@ -27,9 +27,9 @@ use Rattle.stable.specs.Check as checking
 use Rattle.summary.specs.declared.Summary.{Summary}
 use Rattle.summary.specs.Summary.{summaryOf}
 use Rattle.summary.specs.Summary as summing
-use Rattle.search.specs.declared.SearchAnswer.{SearchAnswer}
-use Rattle.search.specs.Answer.{Searches}
-use Rattle.search.specs.Answer as searching
+use Rattle.tree.specs.declared.SearchAnswer.{SearchAnswer}
+use Rattle.tree.specs.Answer.{Searches}
+use Rattle.tree.specs.Answer as searching
 use Rattle.fixpoint.specs.declared.FixpointAnswer.{FixpointAnswer}
 use Rattle.fixpoint.specs.Answer.{roomOf, Fixes}
 use Rattle.fixpoint.specs.Answer as fixing

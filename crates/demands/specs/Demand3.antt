@@ -18,10 +18,10 @@ use Rattle.operator.specs.Operator.{stage}
 use Rattle.stages.specs.Run.{ending, EndsRun}
 use Rattle.program.specs.declared.Outcome.{Outcome}
 use Rattle.program.specs.declared.Outcome.the-variants.{Complete, Full, Spent, Refused}
-use Rattle.search.specs.Tree.{hits}
-use Rattle.search.specs.declared.SearchAnswer.{SearchAnswer}
-use Rattle.search.specs.Answer.{nodesOf, leafOf, Searches}
-use Rattle.search.specs.Answer as search
+use Rattle.tree.specs.Tree.{hits}
+use Rattle.tree.specs.declared.SearchAnswer.{SearchAnswer}
+use Rattle.tree.specs.Answer.{nodesOf, leafOf, Searches}
+use Rattle.tree.specs.Answer as search
 use Rattle.fixpoint.specs.declared.FixpointAnswer.{FixpointAnswer}
 use Rattle.fixpoint.specs.Answer.{vocabulary, transformOf, roomOf, Fixes}
 use Rattle.fixpoint.specs.Answer as fixpoint

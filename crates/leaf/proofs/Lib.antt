@@ -3,4 +3,3 @@ pub mod Packing
 pub mod Supported
 pub mod Subsets
 pub mod Loops
-pub mod Rules

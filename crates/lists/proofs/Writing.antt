@@ -5,10 +5,9 @@ use Prim.Native.Nat.{ℕ, _+_, _-_, _≤_, _<_}
 use native.Mathlib.Nat.{zero-add}
 use native.Mathlib.Numerals.{add-one}
 use native.Mathlib.Omega.{arith}
-use borrow.Author.Needs.{needs}
 use Rattle.lists.specs.Bytes.{over, Wrote}
 use Rattle.lists.proofs.Loops.{ahead, at-end}
-use lib.ListN.{length, getD, take, drop, set, length-append, length-drop, drop-of-length-le}
+use lib.ListN.{length, getD, take, drop, set, length-append, length-drop, length-set, drop-of-length-le}
 use lib.Seq.{take-all, length-take-le, drop-drop, take-at, drop-append-add, take-add, take-append-seam, drop-append-seam, set-split}
 
 -- the bytes ys over xs from a on
@@ -107,8 +106,8 @@ module _ (xs s : List ℕ) where
   pub copy-start : length s ≤ length xs → Copied 0 xs
   copy-start h = record { long = refl; put = put-start xs s h }
 
-  pub copy-more : (i : ℕ) (out : List ℕ) → Copied i out → i < length s → length (set out i (getD s i 0)) ≡ length out → Copied (i + 1) (set out i (getD s i 0))
-  copy-more i out c h l = record { long = l ∙ c .long; put = put-byte xs s i out (getD s i 0) (drop (i + 1) s) (put-as xs s i out _ _ (c .put) (ahead s i h)) }
+  pub copy-more : (i : ℕ) (out : List ℕ) → Copied i out → i < length s → Copied (i + 1) (set out i (getD s i 0))
+  copy-more i out c h = record { long = length-set out i (getD s i 0) ∙ c .long; put = put-byte xs s i out (getD s i 0) (drop (i + 1) s) (put-as xs s i out _ _ (c .put) (ahead s i h)) }
 
   pub copy-done : (i : ℕ) (out : List ℕ) → Copied i out → length s ≤ i → Wrote s xs i out
   copy-done i out c h = put-done xs s i out (put-as xs s i out _ _ (c .put) (at-end s i h))
@@ -116,5 +115,3 @@ module _ (xs s : List ℕ) where
   pub copy-room : (i : ℕ) (out : List ℕ) → Copied i out → i < length s → i < length out
   copy-room i out c h = omega (arith, c .put .fits, c .long)
 
--- what `search` is handed at the needs of such a loop
-pub ruleset copies = (copy-start, copy-more, copy-done, copy-room, needs)

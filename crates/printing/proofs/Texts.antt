@@ -19,10 +19,10 @@ use Rattle.text.specs.Lines.{lineOf, namesLine}
 use Rattle.stable.specs.declared.Checked.{Checked}
 use Rattle.stable.specs.declared.Checked.the-variants as found
 use Rattle.stable.specs.Check.{Checks}
-use Rattle.search.specs.declared.SearchAnswer.{SearchAnswer}
-use Rattle.search.specs.Tree.{Node, hits}
-use Rattle.search.specs.Answer.{answer, overfull, fullAt, runAnswer, leafOf, nodesOf, listed, Searches}
-use Rattle.search.proofs.Runs.{accepted, same-places}
+use Rattle.tree.specs.declared.SearchAnswer.{SearchAnswer}
+use Rattle.tree.specs.Tree.{Node, hits}
+use Rattle.tree.specs.Answer.{answer, overfull, fullAt, runAnswer, leafOf, nodesOf, listed, Searches}
+use Rattle.tree.proofs.Runs.{accepted, same-places}
 use Rattle.lines.specs.Laying.{Room}
 use Rattle.lines.specs.Printed.{numbered, refusedLine, lastLine}
 use Rattle.listings.specs.Listing.{modelLines, listing}

@@ -9,8 +9,8 @@ use Rattle.text.specs.Lines.{lineOf}
 use Rattle.stable.specs.declared.Checked.{Checked}
 use Rattle.stable.specs.declared.Checked.the-variants.{Refused, Violated, Smaller, Stable}
 use Rattle.stable.specs.Check as checked
-use Rattle.search.specs.declared.SearchAnswer.{SearchAnswer}
-use Rattle.search.specs.Answer as searched
+use Rattle.tree.specs.declared.SearchAnswer.{SearchAnswer}
+use Rattle.tree.specs.Answer as searched
 use Rattle.lines.specs.Printed.{numbered, refusedLine, lastLine}
 use Rattle.listings.specs.Listing.{listing}
 

@@ -3,4 +3,3 @@ pub mod Values
 pub mod Places
 pub mod Validity
 pub mod Lowest
-pub mod Rules

@@ -6,14 +6,14 @@ use native.Mathlib.Omega.{arith}
 use lib.ListN.{length, set, length-set}
 use Rattle.program.specs.Clauses.{Clause}
 use Rattle.program.specs.declared.Outcome.the-variants.{Complete, Full, Spent}
-use Rattle.search.specs.declared.SearchAnswer.{SearchAnswer}
-use Rattle.search.specs.Tree.{Dead, tree, isStableLeaf}
-use Rattle.search.specs.Answer.{answer, Ends}
-use Rattle.search.specs.Seek.{Sought, noLeaf, spent, fromWord}
-use Rattle.search.proofs.Machine.{state, on, runs, runs-answer}
-use Rattle.search.proofs.Seeking.{All, all-map, nodes-between, fromWord-all, ordered-nodes, ordered-fromWord, fromWord-fromWord, all-from}
-use Rattle.search.proofs.Seeking.{runs-none, runs-spent, runs-full, runs-found, sought-above, sought-below}
-use Rattle.search.proofs.Visits.{small-words, placed-root, leaf-undecided}
+use Rattle.tree.specs.declared.SearchAnswer.{SearchAnswer}
+use Rattle.tree.specs.Tree.{Dead, tree, isStableLeaf}
+use Rattle.tree.specs.Answer.{answer, Ends}
+use Rattle.seek.specs.Seek.{Sought, noLeaf, spent, fromWord}
+use Rattle.tree.proofs.Machine.{state, on, runs, runs-answer}
+use Rattle.seek.proofs.Seeking.{All, all-map, nodes-between, fromWord-all, ordered-nodes, ordered-fromWord, fromWord-fromWord, all-from}
+use Rattle.seek.proofs.Seeking.{runs-none, runs-spent, runs-full, runs-found, sought-above, sought-below}
+use Rattle.seek.proofs.Visits.{small-words, placed-root, leaf-undecided}
 
 -- the search has m models listed and v nodes visited, and goes on with the nodes from x on
 pub record Searching (D : Dead) (P : List Clause) (A n : ℕ) (l₀ : List ℕ) (x m v : ℕ) (l : List ℕ) : Type 0 where

@@ -4,4 +4,3 @@ pub mod Readings
 pub mod Decides
 pub mod Checking
 pub mod Answers
-pub mod Rules

@@ -5,11 +5,7 @@ use mathlib.Core.List.{List}
 use Prim.Native.Nat.{ℕ, _≤_, _<_}
 use lib.ListN.{getD}
 use borrow.Author.Tests.{lt-ltb, le-ltb}
-use borrow.Author.Needs.{needs}
 use Rattle.sets.specs.Lists.{every, tabulate}
-use Rattle.sets.proofs.Tests.{via, via-true, via-false}
-use Rattle.lists.proofs.Loops.{scan-start, scan-hit, scan-miss, scan-done, held-start, held-more, whole-not, whole-done}
-use Rattle.lists.proofs.Filling.{fill-start, fill-more, fill-done}
 use Rattle.program.specs.declared.Program.{Program}
 use Rattle.program.specs.Values.{isWord}
 use Rattle.program.specs.Refusals.{lowest}
@@ -48,29 +44,3 @@ module _ (p : Program) (words : List ℕ) where
       → record { verdict = Accepted; occurring = o; settled = s } ≡ summaryOf p words
   unfolding summaryOf refusal lowest summaryWith
   summary-is o s v w e f = rw (v, w, f, e)
-
--- what `search` is handed at the needs of this crate
-pub ruleset rules = (
-  shown-in,
-  shown-out,
-  settled-in,
-  settled-out,
-  summary9,
-  summary10,
-  summary-is,
-  fill-start,
-  fill-more,
-  fill-done,
-  scan-start,
-  scan-hit,
-  scan-miss,
-  scan-done,
-  held-start,
-  held-more,
-  whole-not,
-  whole-done,
-  via,
-  via-true,
-  via-false,
-  needs,
-)

@@ -16,8 +16,8 @@ use Rattle.text.specs.Render.{render}
 use Rattle.text.specs.Writing as writing
 use Rattle.text.specs.declared.Written.{Written}
 use Rattle.text.specs.declared.Written.the-variants as written
-use Rattle.search.specs.declared.SearchAnswer.{SearchAnswer}
-use Rattle.search.specs.Answer.{listed, Searches}
+use Rattle.tree.specs.declared.SearchAnswer.{SearchAnswer}
+use Rattle.tree.specs.Answer.{listed, Searches}
 use Rattle.summary.specs.declared.Summary.{Summary}
 use Rattle.summary.specs.Summary.{summaryOf}
 use Rattle.lines.specs.Laying.{Room}

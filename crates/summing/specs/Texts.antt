@@ -4,7 +4,7 @@ use Prim.Native.Nat.{ℕ}
 use Rattle.program.specs.declared.Program.{Program}
 use Rattle.program.specs.Names.{namesOf}
 use Rattle.text.specs.Lines.{namesLine}
-use Rattle.search.specs.Answer as searched
+use Rattle.tree.specs.Answer as searched
 use Rattle.summary.specs.declared.Summary.{Summary}
 use Rattle.summary.specs.Summary.{summaryOf}
 use Rattle.listings.specs.Summary.{fourLines, flagsLine}

@@ -2,7 +2,8 @@
 use Prim.Native.Nat.{ℕ, _<_}
 use borrow.Fn.Kinds.{In}
 use borrow.Fn.PlainCycle.{Measures, is, falls, and}
-use Rattle.leaf.proofs.Rules.{rules}
+use borrow.Author.Needs.{needs}
+use Rattle.leaf.proofs.Subsets.{out-inside, in-inside, branch-cut, branch-end, branch-out, branch-in}
 use Rattle.leaf.proofs.has_smaller.Reads as has-smaller
 use Rattle.leaf.proofs.has_smaller.Kinds as has-smaller-kinds
 use Rattle.leaf.proofs.+has_smaller.Lts-has_smaller as lts
@@ -31,12 +32,12 @@ pub +has-smaller-spec : {M : Type 1} → statement M
 )
     (at t)
     has-smaller.Post
-    (λ c. search rules)
-    (λ c. search rules)
-    (λ c. search rules)
-    (λ c κs. search rules)
-    (λ c. search rules)
-    (λ c κs. (search rules, (search rules, search rules)))
-    (λ c. search rules)
-    (λ c κs. (search rules, (search rules, search rules)))
-    (λ c. search rules)
+    (λ c. search needs)
+    (λ c. search branch-cut)
+    (λ c. search branch-end)
+    (λ c κs. search needs)
+    (λ c. search needs)
+    (λ c κs. (search needs, (search needs, search out-inside)))
+    (λ c. search branch-out)
+    (λ c κs. (search needs, (search needs, search in-inside)))
+    (λ c. search branch-in)

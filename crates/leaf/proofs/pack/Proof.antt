@@ -1,7 +1,8 @@
 -- `leaf::pack` meets its contract: the clauses below i stand in the array as they stand in the columns. Assumes nothing.
+use Rattle.leaf.proofs.Packing.{pack-done, pack-more, pack-start}
+use borrow.Author.Needs.{needs}
 use Prim.Native.Nat.{_-_}
 use Rattle.leaf.proofs.Packing.{Packing}
-use Rattle.leaf.proofs.Rules.{rules}
 use Rattle.leaf.proofs.pack.Statement.{statement}
 use Rattle.leaf.proofs.pack.Tie as tie
 
@@ -12,6 +13,6 @@ abbrev μ-loop : tie.MeasureT-loop
 μ-loop heads bodies nafs table₀ i₀ table i = 64 - i
 
 pub pack-spec : {M : Type 1} → statement M
-pack-spec = tie.close (tie.spec Inv-loop μ-loop (λ c. search rules) (λ c. search rules) (λ c. search rules) (λ c. search rules) (λ c. search rules) (λ c. search rules) (λ c. search rules)
-    (λ c. search rules) (λ c. search rules) (λ c. search rules) (λ c. search rules) (λ c. search rules) (λ c. search rules) (λ c. search rules) (λ c. search rules) (λ c. search rules)
-    (λ c. search rules) (λ c. search rules) (λ c. search rules))
+pack-spec = tie.close (tie.spec Inv-loop μ-loop (λ c. search pack-start) (λ c. search needs) (λ c. search needs) (λ c. search needs) (λ c. search needs)
+    (λ c. search needs) (λ c. search needs) (λ c. search needs) (λ c. search needs) (λ c. search needs) (λ c. search needs) (λ c. search needs) (λ c. search needs)
+    (λ c. search needs) (λ c. search needs) (λ c. search needs) (λ c. search needs) (λ c. search pack-more) (λ c. search pack-done))

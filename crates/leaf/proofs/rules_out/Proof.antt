@@ -1,7 +1,7 @@
 -- `leaf::rules_out` meets its contract: three words are zero where their union is (`ruled-out`). Assumes nothing.
+use Rattle.leaf.proofs.Loops.{ruled-out}
 use native.Mathlib.Omega.{arith}
 use lib.Bits.{and-le-l}
-use Rattle.leaf.proofs.Rules.{rules}
 use Rattle.leaf.proofs.rules_out.Statement.{statement}
 use Rattle.leaf.proofs.rules_out.Tie as tie
 
@@ -9,4 +9,4 @@ sub-result : tie.Need-sub-result
 sub-result c = omega (arith, and-le-l (c .args .body) (c .args .w))
 
 pub rules-out-spec : {M : Type 1} → statement M
-rules-out-spec = tie.close (tie.spec sub-result (λ c. search rules))
+rules-out-spec = tie.close (tie.spec sub-result (λ c. search ruled-out))

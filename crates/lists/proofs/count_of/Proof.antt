@@ -1,7 +1,9 @@
 -- `lists::count_of` meets its contract: the count of what is passed and of what is left is the whole count. Assumes nothing.
+use Rattle.lists.proofs.Loops.{count-done, count-more, count-none}
+use borrow.Author.Needs.{needs}
 use Prim.Native.Nat.{_-_}
 use lib.ListN.{length}
-use Rattle.lists.proofs.Loops.{Counted, loops}
+use Rattle.lists.proofs.Loops.{Counted}
 use Rattle.lists.proofs.count_of.Statement.{statement}
 use Rattle.lists.proofs.count_of.Tie as tie
 
@@ -12,5 +14,5 @@ abbrev μ-loop : tie.MeasureT-loop
 μ-loop s c n₀ i₀ n i = length s - i
 
 pub count-of-spec : {M : Type 1} → statement M
-count-of-spec = tie.close (tie.spec Inv-loop μ-loop (λ c. search loops) (λ c. search loops) (λ c. search loops) (λ c. search loops) (λ c. search loops) (λ c. search loops)
-    (λ c. search loops) (λ c. search loops))
+count-of-spec = tie.close (tie.spec Inv-loop μ-loop (λ c. search count-none) (λ c. search needs) (λ c. search needs) (λ c. search needs) (λ c. search needs)
+    (λ c. search needs) (λ c. search count-more) (λ c. search count-done))

@@ -1,7 +1,8 @@
 -- `program::is_name` meets its contract: `name-is` joins what the three tests give. Assumes nothing.
-use Rattle.program.proofs.Rules.{rules}
+use Rattle.program.proofs.Places.{name-is}
+use borrow.Author.Needs.{needs}
 use Rattle.program.proofs.is_name.Statement.{statement}
 use Rattle.program.proofs.is_name.Tie as tie
 
 pub is-name-spec : {M : Type 1} → statement M
-is-name-spec = tie.close (tie.spec (λ c. search rules) (λ c. search rules) (λ c. search rules))
+is-name-spec = tie.close (tie.spec (λ c. search needs) (λ c. search needs) (λ c. search name-is))

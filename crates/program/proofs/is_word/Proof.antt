@@ -1,7 +1,8 @@
 -- `program::is_word` meets its contract: from 16 atoms on every word of 32 bits passes (`every-word`), and below the shift is exact (`word-below`). Assumes nothing.
-use Rattle.program.proofs.Rules.{rules}
+use Rattle.program.proofs.Places.{every-word, word-below}
+use borrow.Author.Needs.{needs}
 use Rattle.program.proofs.is_word.Statement.{statement}
 use Rattle.program.proofs.is_word.Tie as tie
 
 pub is-word-spec : {M : Type 1} → statement M
-is-word-spec = tie.close (tie.spec (λ c. search rules) (λ c. search rules) (λ c. search rules) (λ c. search rules) (λ c. search rules))
+is-word-spec = tie.close (tie.spec (λ c. search every-word) (λ c. search needs) (λ c. search needs) (λ c. search needs) (λ c. search word-below))

@@ -1,7 +1,8 @@
 -- `program::low_two` meets its contract by the laws of a mask. Assumes nothing.
-use Rattle.program.proofs.Rules.{rules}
+use borrow.Author.Needs.{needs}
+use Rattle.program.proofs.Places.{mask-fits, mask-three}
 use Rattle.program.proofs.low_two.Statement.{statement}
 use Rattle.program.proofs.low_two.Tie as tie
 
 pub low-two-spec : {M : Type 1} → statement M
-low-two-spec = tie.close (tie.spec (λ c. search rules) (λ c. search rules))
+low-two-spec = tie.close (tie.spec (λ c. search (mask-fits, needs)) (λ c. search mask-three))

@@ -1,7 +1,8 @@
 -- `program::value_in` meets its contract: from atom 16 on no bit is left (`no-value`), and below the two bits are shifted down and masked. Assumes nothing.
-use Rattle.program.proofs.Rules.{rules}
+use Rattle.program.proofs.Places.{no-value, value-masked}
+use borrow.Author.Needs.{needs}
 use Rattle.program.proofs.value_in.Statement.{statement}
 use Rattle.program.proofs.value_in.Tie as tie
 
 pub value-in-spec : {M : Type 1} → statement M
-value-in-spec = tie.close (tie.spec (λ c. search rules) (λ c. search rules) (λ c. search rules) (λ c. search rules) (λ c. search rules) (λ c. search rules))
+value-in-spec = tie.close (tie.spec (λ c. search no-value) (λ c. search needs) (λ c. search needs) (λ c. search needs) (λ c. search needs) (λ c. search value-masked))

@@ -1,9 +1,11 @@
 -- `stable::first_violated` meets its contract: the loop has looked at every clause below k, and none is violated. Assumes nothing.
+use Rattle.sets.proofs.Least.{done, hit, miss, start}
+use Rattle.stable.proofs.Checking.{tested}
+use borrow.Author.Needs.{needs}
 use Prim.Native.Nat.{_-_}
 use Rattle.sets.proofs.Least.{Searched}
 use Rattle.program.specs.Clauses.{clauseAt}
 use Rattle.semantics.specs.Interpretations.{violatedAt}
-use Rattle.stable.proofs.Rules.{rules}
 use Rattle.stable.proofs.first_violated.Statement.{statement}
 use Rattle.stable.proofs.first_violated.Tie as tie
 use Rattle.sets.specs.Lists.{tabulate}
@@ -15,5 +17,6 @@ abbrev μ-loop : tie.MeasureT-loop
 μ-loop heads bodies nafs count by w k₀ k = count - k
 
 pub first-violated-spec : {M : Type 1} → statement M
-first-violated-spec = tie.close (tie.spec Inv-loop μ-loop (λ c. search rules) (λ c. search rules) (λ c. search rules) (λ c. search rules) (λ c. search rules) (λ c. search rules)
-    (λ c. search rules) (λ c. search rules) (λ c. search rules) (λ c. search rules) (λ c. search rules) (λ c. search rules) (λ c. search rules))
+first-violated-spec = tie.close (tie.spec Inv-loop μ-loop (λ c. search start) (λ c. search needs) (λ c. search needs) (λ c. search needs) (λ c. search needs)
+    (λ c. search needs) (λ c. search needs) (λ c. search needs) (λ c. search (hit, tested)) (λ c. search needs) (λ c. search needs) (λ c. search (miss, tested))
+    (λ c. search done))

@@ -1,10 +1,12 @@
 -- `stable::least_smaller` meets its contract: the walk has looked at every subset below j, and j is one. Assumes nothing.
+use Rattle.sets.proofs.Least.{done, hit, start}
+use Rattle.stable.proofs.Checking.{least-is, smaller-is, smaller-not, walk-on}
+use borrow.Author.Needs.{needs}
 use Prim.Native.Nat.{_-_}
 use Rattle.sets.specs.Words.{Inside}
 use Rattle.sets.proofs.Least.{Searched}
 use Rattle.program.specs.Clauses.{clauseAt}
 use Rattle.semantics.specs.Interpretations.{reduct, smaller}
-use Rattle.stable.proofs.Rules.{rules}
 use Rattle.stable.proofs.least_smaller.Statement.{statement}
 use Rattle.stable.proofs.least_smaller.Tie as tie
 use Rattle.sets.specs.Lists.{tabulate}
@@ -16,5 +18,5 @@ abbrev μ-loop : tie.MeasureT-loop
 μ-loop heads bodies nafs count candidate j₀ j = candidate - j
 
 pub least-smaller-spec : {M : Type 1} → statement M
-least-smaller-spec = tie.close (tie.spec Inv-loop μ-loop (λ c. search rules) (λ c. search rules) (λ c. search rules) (λ c. search rules) (λ c. search rules) (λ c. search rules)
-    (λ c. search rules))
+least-smaller-spec = tie.close (tie.spec Inv-loop μ-loop (λ c. search start) (λ c. search needs) (λ c. search (least-is, hit, smaller-is)) (λ c. search needs)
+    (λ c. search needs) (λ c. search (walk-on, smaller-not)) (λ c. search (least-is, done)))

@@ -3,7 +3,7 @@ use mathlib.Core.Path.{_≡_}
 use Prim.Native.Nat.{_+_, _-_, _^_}
 use native.Mathlib.Omega.{arith}
 use Rattle.sets.proofs.Subsets.{next-is}
-use Rattle.stable.proofs.Rules.{rules}
+use borrow.Author.Needs.{needs}
 use Rattle.stable.proofs.next_subset.Statement.{statement}
 use Rattle.stable.proofs.next_subset.Tie as tie
 
@@ -13,4 +13,4 @@ returns c =
     rw e (next-is 32 (c .args .word) (c .args .j) (omega arith) (c .pre .0) (c .pre .1))
 
 pub next-subset-spec : {M : Type 1} → statement M
-next-subset-spec = tie.close (tie.spec (λ c. search rules) (λ c. search rules) (λ c. search rules) returns)
+next-subset-spec = tie.close (tie.spec (λ c. search needs) (λ c. search needs) (λ c. search needs) returns)

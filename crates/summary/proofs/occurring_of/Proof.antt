@@ -1,8 +1,9 @@
 -- `summary::occurring_of` meets its contract: the places below i are filled, the loop law of a filled array. Assumes nothing.
+use Rattle.lists.proofs.Filling.{fill-done, fill-more, fill-start}
+use borrow.Author.Needs.{needs}
 use Prim.Native.Nat.{_-_}
 use Rattle.lists.proofs.Filling.{Filled}
 use Rattle.summary.specs.Summary.{shownAt}
-use Rattle.summary.proofs.Laws.{rules}
 use Rattle.summary.proofs.occurring_of.Statement.{statement}
 use Rattle.summary.proofs.occurring_of.Tie as tie
 
@@ -13,5 +14,5 @@ abbrev μ-loop : tie.MeasureT-loop
 μ-loop words n out₀ i₀ out i = 12 - i
 
 pub occurring-of-spec : {M : Type 1} → statement M
-occurring-of-spec = tie.close (tie.spec Inv-loop μ-loop (λ c. search rules) (λ c. search rules) (λ c. search rules) (λ c. search rules) (λ c. search rules) (λ c. search rules)
-    (λ c. search rules))
+occurring-of-spec = tie.close (tie.spec Inv-loop μ-loop (λ c. search fill-start) (λ c. search needs) (λ c. search needs) (λ c. search needs) (λ c. search needs)
+    (λ c. search fill-more) (λ c. search fill-done))

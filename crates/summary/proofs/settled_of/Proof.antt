@@ -1,9 +1,10 @@
 -- `summary::settled_of` meets its contract: the places below i are filled, the loop law of a filled array. Assumes nothing.
+use Rattle.lists.proofs.Filling.{fill-done, fill-more, fill-start}
+use borrow.Author.Needs.{needs}
 use mathlib.Core.Bool.{false}
 use Prim.Native.Nat.{_-_}
 use Rattle.lists.proofs.Filling.{Filled}
 use Rattle.summary.specs.Summary.{settledAt}
-use Rattle.summary.proofs.Laws.{rules}
 use Rattle.summary.proofs.settled_of.Statement.{statement}
 use Rattle.summary.proofs.settled_of.Tie as tie
 
@@ -14,5 +15,5 @@ abbrev μ-loop : tie.MeasureT-loop
 μ-loop shown n out₀ i₀ out i = 12 - i
 
 pub settled-of-spec : {M : Type 1} → statement M
-settled-of-spec = tie.close (tie.spec Inv-loop μ-loop (λ c. search rules) (λ c. search rules) (λ c. search rules) (λ c. search rules) (λ c. search rules) (λ c. search rules)
-    (λ c. search rules))
+settled-of-spec = tie.close (tie.spec Inv-loop μ-loop (λ c. search fill-start) (λ c. search needs) (λ c. search needs) (λ c. search needs) (λ c. search needs)
+    (λ c. search fill-more) (λ c. search fill-done))

@@ -1,8 +1,10 @@
 -- `summary::summarize` meets its contract: `summary9` and `summary10` where it refuses, else `summary-is`. Assumes nothing.
-use Rattle.summary.proofs.Laws.{rules}
+use Rattle.summary.proofs.Laws.{summary-is, summary10, summary9}
+use borrow.Author.Needs.{needs}
+use Rattle.sets.proofs.Tests.{via-true, via-false}
 use Rattle.summary.proofs.summarize.Statement.{statement}
 use Rattle.summary.proofs.summarize.Tie as tie
 
 pub summarize-spec : {M : Type 1} → statement M
-summarize-spec = tie.close (tie.spec (λ c. search rules) (λ c. search rules) (λ c. search rules) (λ c. search rules) (λ c. search rules) (λ c. search rules) (λ c. search rules)
-    (λ c. search rules) (λ c. search rules))
+summarize-spec = tie.close (tie.spec (λ c. search needs) (λ c. search needs) (λ c. search (summary9, via-false)) (λ c. search needs) (λ c. search needs) (λ c. search (summary10, via-true, via-false))
+    (λ c. search needs) (λ c. search needs) (λ c. search (summary-is, via-true)))

@@ -2,10 +2,11 @@
 use Prim.Native.Nat.{_-_}
 use lib.Dec.{eqb}
 use lib.ListN.{length}
-use Rattle.lists.proofs.Loops.{Scanned}
+use borrow.Author.Needs.{needs}
+use Rattle.sets.proofs.Tests.{via}
+use Rattle.lists.proofs.Loops.{Scanned, scan-start, scan-hit, scan-miss, scan-done}
 use Rattle.program.specs.Values.{valueIn}
 use Rattle.summary.specs.Summary.{occurs}
-use Rattle.summary.proofs.Laws.{rules}
 use Rattle.summary.proofs.value_occurs.Statement.{statement}
 use Rattle.summary.proofs.value_occurs.Tie as tie
 
@@ -17,12 +18,12 @@ abbrev μ-loop : tie.MeasureT-loop
 
 returns : tie.Need-returns Inv-loop μ-loop
 unfolding occurs
-returns c = search rules
+returns c = search (scan-hit, via)
 
 returns-2 : tie.Need-returns-2 Inv-loop μ-loop
 unfolding occurs
-returns-2 c = search rules
+returns-2 c = search scan-done
 
 pub value-occurs-spec : {M : Type 1} → statement M
-value-occurs-spec = tie.close (tie.spec Inv-loop μ-loop (λ c. search rules) (λ c. search rules) (λ c. search rules) (λ c. search rules) returns (λ c. search rules) (λ c. search rules)
-    (λ c. search rules) returns-2)
+value-occurs-spec = tie.close (tie.spec Inv-loop μ-loop (λ c. search scan-start) (λ c. search needs) (λ c. search needs) (λ c. search needs) returns (λ c. search needs)
+    (λ c. search needs) (λ c. search (scan-miss, via)) returns-2)

@@ -1,7 +1,9 @@
 -- `validity::clauses_valid` meets its contract: `clauses-many` beyond 64, else `clauses-are` joins the four tests. Assumes nothing.
-use Rattle.validity.proofs.Rules.{rules}
+use Rattle.validity.proofs.Laws.{clauses-are, clauses-many}
+use borrow.Author.Needs.{needs}
 use Rattle.validity.proofs.clauses_valid.Statement.{statement}
 use Rattle.validity.proofs.clauses_valid.Tie as tie
 
 pub clauses-valid-spec : {M : Type 1} → statement M
-clauses-valid-spec = tie.close (tie.spec (λ c. search rules) (λ c. search rules) (λ c. search rules) (λ c. search rules) (λ c. search rules) (λ c. search rules))
+clauses-valid-spec = tie.close (tie.spec (λ c. search clauses-many) (λ c. search needs) (λ c. search needs) (λ c. search needs) (λ c. search needs)
+    (λ c. search clauses-are))

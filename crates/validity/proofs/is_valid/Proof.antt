@@ -1,7 +1,8 @@
 -- `validity::is_valid` meets its contract: `valid-is` joins the names' test and the clauses' test. Assumes nothing.
-use Rattle.validity.proofs.Rules.{rules}
+use Rattle.validity.proofs.Laws.{valid-is}
+use borrow.Author.Needs.{needs}
 use Rattle.validity.proofs.is_valid.Statement.{statement}
 use Rattle.validity.proofs.is_valid.Tie as tie
 
 pub is-valid-spec : {M : Type 1} → statement M
-is-valid-spec = tie.close (tie.spec (λ c. search rules) (λ c. search rules) (λ c. search rules))
+is-valid-spec = tie.close (tie.spec (λ c. search needs) (λ c. search needs) (λ c. search valid-is))

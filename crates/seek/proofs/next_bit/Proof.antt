@@ -1,10 +1,10 @@
--- `search::next_bit` meets its contract: a shift of one is exact below 32 bits. Assumes nothing.
+-- A shift of one is exact below 32 bits. Assumes nothing.
 use Prim.Native.Nat.{_-_}
 use native.Mathlib.Omega.{arith}
 use Rattle.sets.proofs.Highest.{one-shl}
-use Rattle.search.proofs.Rules.{seeking}
-use Rattle.search.proofs.next_bit.Statement.{statement}
-use Rattle.search.proofs.next_bit.Tie as tie
+use borrow.Author.Needs.{needs}
+use Rattle.seek.proofs.next_bit.Statement.{statement}
+use Rattle.seek.proofs.next_bit.Tie as tie
 
 sub-result : tie.Need-sub-result
 sub-result c = omega (arith, c .pre .1)
@@ -16,4 +16,4 @@ returns : tie.Need-returns
 returns c = one-shl 32 (c .args .k - 1) (omega (arith, c .pre .0))
 
 pub next-bit-spec : {M : Type 1} → statement M
-next-bit-spec = tie.close (tie.spec sub-result (λ c. search seeking) shl-result returns)
+next-bit-spec = tie.close (tie.spec sub-result (λ c. search needs) shl-result returns)

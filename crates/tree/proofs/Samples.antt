@@ -6,8 +6,8 @@ use Rattle.program.specs.Clauses.{Clause}
 use Rattle.program.specs.Values.{wordOf, clauseOfValues, wordBy, bitsOf}
 use Rattle.semantics.specs.Books.{book, ⟨_·_⟩, clausesOf}
 use Rattle.program.specs.declared.Outcome.the-variants.{Complete, Full, Spent}
-use Rattle.search.specs.Tree.{dead, nodes, tree, nodeCount, isStableLeaf}
-use Rattle.search.specs.Answer.{answer, runAnswer, listing, runExit}
+use Rattle.tree.specs.Tree.{dead, nodes, tree, nodeCount, isStableLeaf}
+use Rattle.tree.specs.Answer.{answer, runAnswer, listing, runExit}
 
 -- fell due: 1 0 / 2 0 / 16 1
 abbrev fell : List Clause

@@ -11,9 +11,9 @@ use Rattle.sets.specs.Lists.{anyOf}
 use Rattle.sets.specs.Words.{Inside, inside, apart}
 use Rattle.program.specs.Clauses.{Clause}
 use Rattle.leaf.specs.Leaf.{rulesOut}
-use Rattle.search.specs.Tree.{decided, deadBy, dead}
-use Rattle.search.specs.Seek.{AtNode}
-use Rattle.search.proofs.Nodes.{and-reach}
+use Rattle.tree.specs.Tree.{decided, deadBy, dead}
+use Rattle.seek.specs.Seek.{AtNode}
+use Rattle.tree.proofs.Nodes.{and-reach}
 
 in-settled : (k w x : ℕ) → w % 2 ^ k ≡ 0 → decided k x && inside x w ≡ inside x w
 in-settled k w x z = go (inside x w) refl

@@ -5,7 +5,7 @@ use mathlib.Core.List.{List, [], _∷_}
 use Prim.Native.Nat.{ℕ, _+_, _-_, _%_, _^_, _≤_}
 use lib.Dec.{ltb}
 use Rattle.program.specs.Clauses.{Clause}
-use Rattle.search.specs.Tree.{Node, dead, nodes, isStableLeaf}
+use Rattle.tree.specs.Tree.{Node, dead, nodes, isStableLeaf}
 
 -- what is answered where no node is a hit, and where the node limit ended before one
 abbrev pub noLeaf : ℕ

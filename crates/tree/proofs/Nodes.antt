@@ -17,7 +17,7 @@ use Rattle.sets.proofs.Lists.{upFrom-add, upFrom-in, sift-append, sift-none}
 use Rattle.program.specs.Clauses.{Clause}
 use Rattle.semantics.specs.Interpretations.{reduct, isModel, violates, isStable, models}
 use Rattle.stable.proofs.Checking.{model-cons}
-use Rattle.search.specs.Tree.{Node, node, Dead, decided, deadBy, dead, nodes, tree, isStableLeaf, hits, stableLeaves}
+use Rattle.tree.specs.Tree.{Node, node, Dead, decided, deadBy, dead, nodes, tree, isStableLeaf, hits, stableLeaves}
 
 -- ---- a word whose k low bits are zero, and r below 2 ^ k put there
 and-blocks : (k a s b r : ℕ) → s < 2 ^ k → r < 2 ^ k → bitAnd (a * 2 ^ k + s) (b * 2 ^ k + r) ≡ bitAnd (a * 2 ^ k + s) (b * 2 ^ k + 0) + bitAnd s r

@@ -13,10 +13,10 @@ use borrow.Author.Tests.{lt-ltb, le-ltb, eq-eqb, ne-eqb, eqb-true, not-true, not
 use Rattle.sets.proofs.Tests.{dec, both-true}
 use Rattle.program.specs.Clauses.{Clause}
 use Rattle.semantics.specs.Interpretations.{reduct, isModel, isStable}
-use Rattle.search.specs.Tree.{Node, node, Dead, dead, nodes, isStableLeaf}
-use Rattle.search.specs.Seek.{stops, counted, Ticked, Sought, Placed, AtNode, noLeaf, spent, fromWord, sought, after}
-use Rattle.search.proofs.Nodes.{low-out, low-in, live-leaf}
-use Rattle.search.proofs.Seeking.{All, all-map, all-fromWord, nodes-between, fromWord-append, fromWord-none, sought-append, sought-first}
+use Rattle.tree.specs.Tree.{Node, node, Dead, dead, nodes, isStableLeaf}
+use Rattle.seek.specs.Seek.{stops, counted, Ticked, Sought, Placed, AtNode, noLeaf, spent, fromWord, sought, after}
+use Rattle.tree.proofs.Nodes.{low-out, low-in, live-leaf}
+use Rattle.seek.proofs.Seeking.{All, all-map, all-fromWord, nodes-between, fromWord-append, fromWord-none, sought-append, sought-first}
 
 -- ---- the children of a node
 pub halved : (k : ℕ) → (k ≡ 0 → ⊥) → 2 ^ k ≡ 2 ^ (k - 1) * 2

@@ -1,6 +1,6 @@
 -- What every search answers and lists, for every table, every node limit A and every lent list l. Assumes nothing.
-use mathlib.Core.Path.{_≡_, refl, sym, ap, _∙_}
-use mathlib.Core.Bool.{Bool, true, false, cond, not}
+use mathlib.Core.Path.{_≡_, refl, sym, ap}
+use mathlib.Core.Bool.{Bool, true, false, cond}
 use mathlib.Core.Logic.{_⊎_, ⊎-elim}
 use mathlib.Core.List.{List, []}
 use Prim.Native.Nat.{ℕ, suc, _+_, _-_, _*_, _%_, _^_, _≤_, _<_}
@@ -8,26 +8,22 @@ use native.Mathlib.Omega.{arith}
 use lib.Dec.{ltb}
 use lib.ListN.{length, take, drop, length-take, length-drop, length-append, take-append-drop}
 use lib.Seq.{take-append-seam, drop-append-seam, take-all}
-use borrow.Author.Tests.{ltb-true, ltb-false, not-true, not-false}
-use Rattle.sets.specs.Lists.{Begins, tabulate}
+use borrow.Author.Tests.{ltb-true, ltb-false}
+use Rattle.sets.specs.Lists.{Begins}
 use Rattle.sets.specs.Words.{bit}
 use Rattle.sets.proofs.Tests.{dec, clash}
 use Rattle.sets.proofs.Rising.{begins-append, begins-take}
 use Rattle.program.specs.declared.Program.{Program}
-use Rattle.program.specs.Clauses.{Clause, clauses, rows}
+use Rattle.program.specs.Clauses.{Clause, clauses}
 use Rattle.program.specs.Valid.{valid}
 use Rattle.program.specs.Refusals.{lowest}
-use Rattle.program.proofs.Validity.{valid-names, valid-clauses}
 use Rattle.semantics.specs.Definitions.{PStable}
 use Rattle.semantics.specs.Interpretations.{rulesOf, isStable, models}
 use Rattle.stable.proofs.Decides.{stable-PStable, PStable-stable}
 use Rattle.program.specs.declared.Outcome.the-variants.{Complete, Full, Spent, Refused}
-use Rattle.search.specs.declared.SearchAnswer.{SearchAnswer}
-use Rattle.search.specs.Tree.{Node, Dead, dead, tree, nodeCount, hits, stableLeaves}
-use Rattle.search.specs.Answer.{answer, overfull, fullAt, runAnswer, listing, runExit, leafOf, nodesOf, refusal, answerOf, exitOf, listed, Searches, Ends}
-use Rattle.leaf.specs.Packed.{packedAt, Packs}
-use Rattle.leaf.proofs.Packing.{packed-same}
-use Rattle.search.proofs.Nodes.{hits-append, leaves-models, unstable-below, count-nodes}
+use Rattle.tree.specs.Tree.{Node, Dead, dead, tree, nodeCount, hits, stableLeaves}
+use Rattle.tree.specs.Answer.{answer, overfull, fullAt, runAnswer, listing, runExit, leafOf, nodesOf, refusal, answerOf, exitOf, listed}
+use Rattle.tree.proofs.Nodes.{hits-append, leaves-models, unstable-below, count-nodes}
 
 -- ---- the tree
 -- no leaf below a node that D calls dead is p-stable
@@ -130,24 +126,3 @@ module _ (p : Program) (A : ℕ) (l : List ℕ) where
 
   pub same-places : length (exitOf p A l) ≡ length l
   same-places = ⊎-elim (λ v. rw (accepted v .1) (exit-length (leafOf p) (nodesOf p) A l)) (λ v. rw (refused v .1)) (dec (valid p))
-
-  -- ---- the ways that the call returns
-  pub no-table : {v : Bool} {a : SearchAnswer} → v ≡ valid p → not v ≡ true → a ≡ answer (Refused 9) 0 0 → Searches p A l a l
-  no-table {v} e h q = let r = refused (sym e ∙ not-true v h) in record { says = q ∙ sym (r .0); lists = sym (r .1) }
-
-  pub searched : {v : Bool} {a : SearchAnswer} {m t : List ℕ} → v ≡ valid p → not v ≡ false → Packs (p .heads) (p .bodies) (p .nafs) t
-      → Ends (dead (tabulate (packedAt t) (p .«clause_count»))) (tabulate (packedAt t) (p .«clause_count»)) (p .«atom_count») A l a m → Searches p A l a m
-  unfolding clauses rows
-  searched {v} {a} {m} {t} e h k q =
-      let u = sym e ∙ not-false v h in
-      let r = accepted u in
-      let w = rw (packed-same (p .heads) (p .bodies) (p .nafs) t (p .«clause_count») k (valid-clauses p u .short)) at q in
-      record { says = w .says ∙ sym (r .0); lists = w .lists ∙ sym (r .1) }
-
--- what the run asks of its table
-module _ (p : Program) {v : Bool} (e : v ≡ valid p) (h : not v ≡ false) where
-  pub few-clauses : p .«clause_count» ≤ 64
-  few-clauses = valid-clauses p (sym e ∙ not-false v h) .short
-
-  pub few-atoms : p .«atom_count» ≤ 12
-  few-atoms = valid-names p (sym e ∙ not-false v h) .few

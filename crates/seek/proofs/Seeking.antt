@@ -2,7 +2,7 @@
 use mathlib.Core.Path.{_≡_, refl, sym, ap, _∙_}
 use mathlib.Core.Bool.{Bool, true, false, cond}
 use mathlib.Core.List.{List, [], _∷_, _++_}
-use Prim.Native.Nat.{ℕ, zero, suc, _+_, _-_, _^_, _≤_, _<_}
+use Prim.Native.Nat.{ℕ, zero, suc, _+_, _^_, _≤_, _<_}
 use native.Mathlib.Nat.{pow-suc}
 use native.Mathlib.Omega.{arith}
 use lib.Dec.{ltb}
@@ -10,10 +10,10 @@ use lib.Pow.{pow-pos}
 use lib.ListN.{length, set}
 use borrow.Author.Tests.{lt-ltb, le-ltb, ltb-true, ltb-false}
 use Rattle.program.specs.declared.Outcome.the-variants.{Full, Spent}
-use Rattle.search.specs.Tree.{Node, node, Dead, nodes}
-use Rattle.search.specs.Answer.{answer}
-use Rattle.search.specs.Seek.{noLeaf, spent, fromWord, sought, after}
-use Rattle.search.proofs.Machine.{state, on, step, runs, runs-ended, step-spent, step-miss, step-hit, step-full}
+use Rattle.tree.specs.Tree.{Node, node, Dead, nodes}
+use Rattle.tree.specs.Answer.{answer}
+use Rattle.seek.specs.Seek.{noLeaf, spent, fromWord, sought, after}
+use Rattle.tree.proofs.Machine.{state, on, step, runs, runs-ended, step-spent, step-miss, step-hit, step-full}
 
 -- ---- every node of xs passes a test of its word
 unfoldable pub All : (ℕ → Type 0) → List Node → Type 0

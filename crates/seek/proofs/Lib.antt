@@ -1,0 +1,4 @@
+-- The laws of the recursion over the tree.
+pub mod Dead
+pub mod Seeking
+pub mod Visits
