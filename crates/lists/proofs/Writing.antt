@@ -114,4 +114,3 @@ module _ (xs s : List ℕ) where
 
   pub copy-room : (i : ℕ) (out : List ℕ) → Copied i out → i < length s → i < length out
   copy-room i out c h = omega (arith, c .put .fits, c .long)
-

@@ -23,6 +23,7 @@ use Rattle.program.specs.Names.{isName, place, nameAt, namesOf}
 use Rattle.program.specs.Values.{isWord, valueIn, wordOf, bitsOf, wordBy, clauseOfValues, clauseValue, clauseValues}
 use Rattle.program.specs.Valid.{zeroFrom, isPlace, namesValid, isClause, clausesValid, valid, Sized}
 use Rattle.program.proofs.Places.{place-long}
+use Rattle.program.proofs.Values.{value-lt}
 use Rattle.program.proofs.Validity.{valid-names, valid-clauses, clause-below}
 use Rattle.text.specs.Tables.{placed, tableOf}
 use Rattle.text.specs.Refusals.{isValue, isRow}
@@ -198,10 +199,6 @@ word-back (suc k) w h =
     let r : wordOf (upFrom (valueIn w) k 1) ≡ w / 4 = ap wordOf e ∙ word-back k (w / 4) (omega arith) in
     omega arith
 
-bits-lt : (w i : ℕ) → valueIn w i < 4
-unfolding valueIn
-bits-lt w i = omega arith
-
 module _ (n : ℕ) (c : Clause) where
   part-back : (k w : ℕ) → ((t : ℕ) → bitsOf k (clauseValue c t) ≡ valueIn w t) → w < 2 ^ (2 * n) → wordBy k (clauseValues n c) ≡ w
   unfolding clauseValues tabulate wordBy
@@ -211,15 +208,15 @@ module _ (n : ℕ) (c : Clause) where
 
   pub head-back : c .head < 2 ^ (2 * n) → wordBy 1 (clauseValues n c) ≡ c .head
   unfolding clauseValue bitsOf
-  head-back = part-back 1 (c .head) (λ t. omega (arith, bits-lt (c .head) t))
+  head-back = part-back 1 (c .head) (λ t. omega (arith, value-lt (c .head) t))
 
   pub body-back : c .body < 2 ^ (2 * n) → wordBy 4 (clauseValues n c) ≡ c .body
   unfolding clauseValue bitsOf
-  body-back = part-back 4 (c .body) (λ t. omega (arith, bits-lt (c .head) t, bits-lt (c .body) t))
+  body-back = part-back 4 (c .body) (λ t. omega (arith, value-lt (c .head) t, value-lt (c .body) t))
 
   pub naf-back : c .naf < 2 ^ (2 * n) → wordBy 16 (clauseValues n c) ≡ c .naf
   unfolding clauseValue bitsOf
-  naf-back = part-back 16 (c .naf) (λ t. omega (arith, bits-lt (c .head) t, bits-lt (c .body) t, bits-lt (c .naf) t))
+  naf-back = part-back 16 (c .naf) (λ t. omega (arith, value-lt (c .head) t, value-lt (c .body) t, value-lt (c .naf) t))
 
   -- a clause over n names is the clause with its values
   clause-back : isClause n c ≡ true → clauseOfValues (clauseValues n c) ≡ c
@@ -295,7 +292,7 @@ one-place P Q a b e =
 values-small : (c : Clause) (k i : ℕ) → every isValue (upFrom (clauseValue c) k i) ≡ true
 unfolding upFrom every clauseValue
 values-small c zero i = refl
-values-small c (suc k) i = rw (le-leb (clauseValue c i) 63 (omega (arith, bits-lt (c .head) i, bits-lt (c .body) i, bits-lt (c .naf) i)), values-small c k (suc i))
+values-small c (suc k) i = rw (le-leb (clauseValue c i) 63 (omega (arith, value-lt (c .head) i, value-lt (c .body) i, value-lt (c .naf) i)), values-small c k (suc i))
 
 row-form : (n : ℕ) (c : Clause) → isRow n (clauseValues n c) ≡ true
 unfolding isRow clauseValues tabulate
