@@ -18,19 +18,22 @@ use Rattle.program.specs.declared.Program.{Program}
 use Rattle.program.specs.Clauses.{Clause, Below, clauseAt, rows, clauses}
 use Rattle.program.specs.Valid.{valid}
 use Rattle.program.specs.Refusals.{lowest}
-use Rattle.program.proofs.Validity.{valid-names, valid-clauses, valid-below}
+use Rattle.program.proofs.Validity.{valid-below}
 use Rattle.rising.specs.Slices.{Prefix}
 use Rattle.operator.specs.Operator.{WordRule, ruleAt}
 use Rattle.stages.specs.Run.{crowded}
 use Rattle.stages.specs.Minimal.{minimalModels, Minimals}
 use Rattle.rising.proofs.RisingSets.{in-addAll}
-use Rattle.transform.specs.Transform.{kappaFrom, allStandIns, members}
-use Rattle.transform.specs.Emit.{Emits, Room, ClausesOver}
+use Rattle.transform.specs.Transform.{kappaFrom, members}
+use Rattle.emission.specs.Emit.{Emits, Places}
+use Rattle.rewriting.specs.Rewriting.{ClausesOver}
+use Rattle.vocabulary.specs.Vocabulary.{literalsOf, vocabulary}
+use Rattle.vocabulary.proofs.Counting.{names-few, clauses-few, column-fits}
 use Rattle.transform.specs.Listing.{literalPart, canonical, partsOf, listing}
 use Rattle.program.specs.declared.Outcome.the-variants.{Complete, Full, Refused}
 use Rattle.fixpoint.specs.declared.FixpointAnswer.{FixpointAnswer}
 use Rattle.fixpoint.specs.Overwriting.{overwrite}
-use Rattle.fixpoint.specs.Answer.{listed, refused, Listed, runAnswer, runExit, Answered, literalsOf, vocabulary, transformOf, found, roomOf, refusal, answerOf}
+use Rattle.fixpoint.specs.Answer.{listed, refused, Listed, runAnswer, runExit, Answered, transformOf, found, roomOf, refusal, answerOf}
 use Rattle.fixpoint.specs.Answer.{exitOf, Fixes}
 use Rattle.fixpoint.proofs.Collecting.{parts-few}
 use Rattle.fixpoint.proofs.Size.{program-short}
@@ -120,29 +123,15 @@ abbrev columns : Program → List Clause
 columns p = tabulate (clauseAt (p .heads) (p .bodies) (p .nafs)) (p .«clause_count»)
 
 module _ (p : Program) (v : valid p ≡ true) where
-  pub names-few : p .«atom_count» ≤ 12
-  names-few = valid-names p v .few
-
-  pub clauses-few : p .«clause_count» ≤ 64
-  clauses-few = valid-clauses p v .short
-
-  -- its columns are arrays of 64 places
-  pub column-fits : (xs : List ℕ) → length xs ≡ 64 → p .«clause_count» ≤ length xs
-  column-fits xs l = omega (arith, clauses-few)
-
   module _ (m : ℕ) (e : m ≡ literalsOf p) where
-    pub counted : (st : ℕ) → st ≡ allStandIns (columns p) → m + m + st ≡ vocabulary p
-    unfolding vocabulary members clauses rows
-    counted st h = omega (arith, e, h)
-
     pub table-over : length (p .heads) ≡ 64 → length (p .bodies) ≡ 64 → length (p .nafs) ≡ 64 → ClausesOver m (p .heads) (p .bodies) (p .nafs) (p .«clause_count»)
     unfolding clauses rows
     table-over hs bs ns = record {
-      literals = omega (arith, e, names-few);
-      few = clauses-few;
-      heads = column-fits (p .heads) hs;
-      bodies = column-fits (p .bodies) bs;
-      nafs = column-fits (p .nafs) ns;
+      literals = omega (arith, e, names-few p v);
+      few = clauses-few p v;
+      heads = column-fits p v (p .heads) hs;
+      bodies = column-fits p v (p .bodies) bs;
+      nafs = column-fits p v (p .nafs) ns;
       below = subst (λ k. Each (Below k) (columns p)) (sym e) (valid-below p v);
     }
 
@@ -154,9 +143,9 @@ module _ (p : Program) (v : valid p ≡ true) where
       short : length (kappaFrom m (m + m) (columns p)) ≤ 1120
       unfolding clauses rows
       short = program-short m _ (subst (λ k. Each (Below k) (columns p)) (sym e) (valid-below p v))
-          (let l = length-tabulate (clauseAt (p .heads) (p .bodies) (p .nafs)) (p .«clause_count») in omega (arith, clauses-few)) table-fits
+          (let l = length-tabulate (clauseAt (p .heads) (p .bodies) (p .nafs)) (p .«clause_count») in omega (arith, clauses-few p v)) table-fits
 
-      pub table-room : (xs ys : List ℕ) → length xs ≡ 1120 → length ys ≡ 1120 → Room (kappaFrom m (m + m) (columns p)) xs ys 0
+      pub table-room : (xs ys : List ℕ) → length xs ≡ 1120 → length ys ≡ 1120 → Places (kappaFrom m (m + m) (columns p)) xs ys 0
       table-room xs ys a b = record { heads = omega (arith, short); bodies = omega (arith, short) }
 
       module _ (xs ys xs′ ys′ : List ℕ) (n : ℕ) (g : Emits (kappaFrom m (m + m) (columns p)) xs ys 0 xs′ ys′ n) where
@@ -215,6 +204,6 @@ pub ruleset listing-laws = (listed-all, listed-some, refused-is, shorter-left, s
 -- what `search` is handed over a positive program, and over a table
 pub ruleset answering = (listing-laws, first-fits, second-fits, refused-crowded, answered, evening, needs)
 
-pub ruleset columns-laws = (names-few, clauses-few, column-fits, counted, table-over, table-fits, table-room, heads-there, bodies-there, length-replicate)
+pub ruleset columns-laws = (names-few, clauses-few, column-fits, table-over, table-fits, table-room, heads-there, bodies-there, length-replicate)
 
 pub ruleset tables = (columns-laws, table-answered, is-table, few-members, no-table, too-many, fixed, needs)

@@ -2,7 +2,7 @@
 use mathlib.Core.Path.{_≡_}
 use mathlib.Core.Bool.{Bool, cond, not}
 use mathlib.Core.List.{List, [], _∷_}
-use Prim.Native.Nat.{ℕ, _+_, _*_, min}
+use Prim.Native.Nat.{ℕ, _+_, min}
 use lib.Dec.{eqb, leb, ltb}
 use lib.ListN.{length}
 use Rattle.program.specs.declared.Program.{Program}
@@ -11,7 +11,8 @@ use Rattle.program.specs.Valid.{valid}
 use Rattle.program.specs.Refusals.{lowest}
 use Rattle.operator.specs.Operator.{WordRule}
 use Rattle.stages.specs.Run.{crowded}
-use Rattle.transform.specs.Transform.{kappaFrom, members}
+use Rattle.transform.specs.Transform.{kappaFrom}
+use Rattle.vocabulary.specs.Vocabulary.{literalsOf, vocabulary}
 use Rattle.program.specs.declared.Outcome.the-variants.{Complete, Full, Refused}
 use Rattle.fixpoint.specs.declared.FixpointAnswer.{FixpointAnswer}
 use Rattle.transform.specs.Listing.{listing}
@@ -42,13 +43,6 @@ pub record Answered (m : ℕ) (Q : List WordRule) (room : ℕ) (xs out : List �
   pub exit : out ≡ runExit m Q room xs
 
 -- ---- the fixpoint of a table
--- the literals of its names; "The vocabulary has W members: 4n and one for each stand-in."
-abbrev pub literalsOf : Program → ℕ
-literalsOf p = 2 * p .«atom_count»
-
-unfoldable pub vocabulary : Program → ℕ
-vocabulary p = members (literalsOf p) (clauses p)
-
 -- its transform: literals at 0 to 2n - 1, K of each 2n higher, stand-ins from 4n on
 unfoldable pub transformOf : Program → List WordRule
 transformOf p = kappaFrom (literalsOf p) (literalsOf p + literalsOf p) (clauses p)

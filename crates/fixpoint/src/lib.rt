@@ -1,15 +1,16 @@
 // The fixpoint of the epistemic transform: stages formed on words, their canonical minimal models, the literal parts of these.
 ghost use mathlib.Core.Path.{_≡_};
 ghost use mathlib.Core.Bool.{true};
-ghost use Prim.Native.Nat.{_*_, _^_, _≤_, _<_, min};
+ghost use Prim.Native.Nat.{_^_, _≤_, _<_, min};
 ghost use lib.ListN.{length, take};
 ghost use Rattle.sets.specs.Lists.{Each, tabulate};
 ghost use Rattle.program.specs.Valid.{valid};
 ghost use Rattle.rising.specs.Slices.{Prefix};
 ghost use Rattle.operator.specs.Operator.{ruleAt};
 ghost use Rattle.transform.specs.Listing.{literalPart, canonical, partsOf};
+ghost use Rattle.vocabulary.specs.Vocabulary.{literalsOf, vocabulary};
 ghost use Rattle.fixpoint.specs.Overwriting.{overwrite};
-ghost use Rattle.fixpoint.specs.Answer.{listed, refused, Listed, Answered, literalsOf, vocabulary, transformOf, roomOf, Fixes};
+ghost use Rattle.fixpoint.specs.Answer.{listed, refused, Listed, Answered, transformOf, roomOf, Fixes};
 use program::Outcome;
 use program::Program;
 
@@ -175,23 +176,6 @@ fn list_models<'a>(
     )
 }
 
-fn literal_count(atoms: usize) -> u32
-    requires { ⌜ atoms ≤ 12 ⌝ }
-    ensures { λ r. ⌜ (r ≡ 2 * atoms) × (r ≤ 24) ⌝ }
-{
-    (2 * atoms) as u32
-}
-
-// W: how many members the vocabulary of a valid table has.
-fn member_count(p: Program) -> u32
-    requires { ⌜ valid p ≡ true ⌝ }
-    ensures { λ r. ⌜ r ≡ vocabulary p ⌝ }
-{
-    let m = literal_count(p.atom_count);
-    let stands = transform::count_stand_ins(&p.heads, &p.bodies, &p.nafs, p.clause_count);
-    m + m + stands
-}
-
 // The fixpoint of a valid table whose vocabulary fits a word.
 fn fix_table(
     p: Program,
@@ -202,10 +186,10 @@ fn fix_table(
     requires { ⌜ (valid p ≡ true) × (vocabulary p ≤ 64) ⌝ }
     ensures { λ r. ⌜ Answered (literalsOf p) (transformOf p) (roomOf (now (first .entry)) (now (second .entry))) (now (models .entry)) (now (models .exit)) r ⌝ }
 {
-    let m = literal_count(p.atom_count);
+    let m = vocabulary::literal_count(p.atom_count);
     let mut hs = [0u64; 1120];
     let mut bs = [0u64; 1120];
-    let n = transform::transform(
+    let n = rewriting::transform(
         m,
         &p.heads,
         &p.bodies,
@@ -229,7 +213,7 @@ pub fn fixpoint(
     if !validity::is_valid(p) {
         return refuse(program::INVALID_PROGRAM);
     }
-    if MOST_MEMBERS < member_count(p) {
+    if MOST_MEMBERS < vocabulary::member_count(p) {
         return refuse(program::TOO_MANY_MEMBERS);
     }
     fix_table(p, models, first, second)
