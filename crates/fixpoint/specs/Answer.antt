@@ -16,7 +16,7 @@ use Rattle.vocabulary.specs.Vocabulary.{literalsOf, vocabulary}
 use Rattle.program.specs.declared.Outcome.the-variants.{Complete, Full, Refused}
 use Rattle.fixpoint.specs.declared.FixpointAnswer.{FixpointAnswer}
 use Rattle.transform.specs.Listing.{listing}
-use Rattle.fixpoint.specs.Overwriting.{overwrite}
+use Rattle.parts.specs.Overwriting.{overwrite}
 
 -- "Outcome: complete, or full if the list is too short for them all; it then holds the lowest ones, as many as fit."
 unfoldable pub listed : ℕ → ℕ → FixpointAnswer
@@ -25,11 +25,6 @@ listed count places = record { outcome = cond (leb count places) Complete Full; 
 -- "A refusal carries its number .. and counts are 0."
 unfoldable pub refused : ℕ → FixpointAnswer
 refused n = record { outcome = Refused n; written = 0 }
-
--- the answer and the list at exit where the words l are to be listed
-pub record Listed (l xs out : List ℕ) (r : FixpointAnswer) : Type 0 where
-  pub answer : r ≡ listed (length l) (length xs)
-  pub exit : out ≡ overwrite xs l
 
 -- ---- over a positive program of words whose m lowest members are the literals
 unfoldable pub runAnswer : ℕ → List WordRule → ℕ → ℕ → FixpointAnswer
