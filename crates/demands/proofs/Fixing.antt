@@ -21,8 +21,9 @@ use Rattle.stages.specs.Run.{ending, crowded}
 use Rattle.program.specs.declared.Outcome.{Outcome}
 use Rattle.program.specs.declared.Outcome.the-variants.{Complete, Full, Refused}
 use Rattle.fixpoint.specs.declared.FixpointAnswer.{FixpointAnswer}
-use Rattle.fixpoint.specs.Overwriting.{overwrite}
-use Rattle.fixpoint.specs.Answer.{vocabulary, transformOf, roomOf, found, refusal, listed, refused, answerOf, exitOf}
+use Rattle.parts.specs.Overwriting.{overwrite}
+use Rattle.vocabulary.specs.Vocabulary.{vocabulary}
+use Rattle.fixpoint.specs.Answer.{transformOf, roomOf, found, refusal, listed, refused, answerOf, exitOf}
 use Rattle.fixpoint.proofs.Lists.{found-models}
 use Rattle.fixpoint.proofs.Ending.{ends-run}
 use Rattle.demands.specs.Demand3.{outcome, written, allModels, Crowded, ByFixpoint}

@@ -23,7 +23,8 @@ use Rattle.tree.specs.declared.SearchAnswer.{SearchAnswer}
 use Rattle.tree.specs.Answer.{nodesOf, leafOf, Searches}
 use Rattle.tree.specs.Answer as search
 use Rattle.fixpoint.specs.declared.FixpointAnswer.{FixpointAnswer}
-use Rattle.fixpoint.specs.Answer.{vocabulary, transformOf, roomOf, Fixes}
+use Rattle.vocabulary.specs.Vocabulary.{vocabulary}
+use Rattle.fixpoint.specs.Answer.{transformOf, roomOf, Fixes}
 use Rattle.fixpoint.specs.Answer as fixpoint
 
 -- ---- a run

@@ -16,7 +16,7 @@ use Rattle.program.specs.declared.Outcome.{Outcome}
 use Rattle.program.specs.declared.Outcome.the-variants as outcome
 use Rattle.program.proofs.Outcome.{the-type}
 use Rattle.fixpoint.specs.declared.FixpointAnswer.{FixpointAnswer}
-use Rattle.fixpoint.specs.Overwriting.{overwrite}
+use Rattle.parts.specs.Overwriting.{overwrite}
 use Rattle.fixpoint.specs.Answer as fixed
 use Rattle.fixpoint.specs.Answer.{Fixes, roomOf}
 use Rattle.lines.specs.Printed.{outcomeWord, numbered, refusedLine}

@@ -1,38 +1,35 @@
 -- The ways that the fixpoint's routines return, one law for each, with premises that are what tests and callees give. Assumes nothing.
-use mathlib.Core.Path.{_≡_, refl, sym, ap, _∙_, subst}
-use mathlib.Core.Logic.{⊎-elim}
+use mathlib.Core.Path.{_≡_, refl, sym, ap, ap₂, _∙_, subst}
 use mathlib.Core.Bool.{Bool, true, false, cond, not}
-use mathlib.Core.List.{List, []}
-use Prim.Native.Nat.{ℕ, _+_, _^_, _≤_, _<_, min}
-use native.Mathlib.Nat.{mod-lt, lt-of-lt-of-le}
+use mathlib.Core.List.{List}
+use Prim.Native.Nat.{ℕ, _+_, _≤_, _<_, min}
 use native.Mathlib.Omega.{arith}
 use borrow.Author.Needs.{needs}
 use borrow.Author.Tests.{le-leb, lt-leb, lt-ltb, le-ltb, not-true, not-false}
 use lib.Dec.{ltb}
-use lib.Pow.{pow-pos, pow-mono}
 use lib.ListN.{length, take, length-replicate}
 use lib.Seq.{length-take-le}
-use Rattle.sets.specs.Lists.{_∈_, Each, sift, upFrom, tabulate}
-use Rattle.sets.proofs.Lists.{map-in, length-tabulate}
+use Rattle.sets.specs.Lists.{Each, upFrom, tabulate}
+use Rattle.sets.proofs.Lists.{length-tabulate}
 use Rattle.program.specs.declared.Program.{Program}
 use Rattle.program.specs.Clauses.{Clause, Below, clauseAt, rows, clauses}
 use Rattle.program.specs.Valid.{valid}
 use Rattle.program.specs.Refusals.{lowest}
-use Rattle.program.proofs.Validity.{valid-names, valid-clauses, valid-below}
-use Rattle.rising.specs.Slices.{Prefix}
+use Rattle.program.proofs.Validity.{valid-below}
 use Rattle.operator.specs.Operator.{WordRule, ruleAt}
 use Rattle.stages.specs.Run.{crowded}
 use Rattle.stages.specs.Minimal.{minimalModels, Minimals}
-use Rattle.rising.proofs.RisingSets.{in-addAll}
-use Rattle.transform.specs.Transform.{kappaFrom, allStandIns, members}
-use Rattle.transform.specs.Emit.{Emits, Room, ClausesOver}
-use Rattle.transform.specs.Listing.{literalPart, canonical, partsOf, listing}
+use Rattle.transform.specs.Transform.{kappaFrom, members}
+use Rattle.emission.specs.Emit.{Emits, Places}
+use Rattle.rewriting.specs.Rewriting.{ClausesOver}
+use Rattle.vocabulary.specs.Vocabulary.{literalsOf, vocabulary}
+use Rattle.vocabulary.proofs.Counting.{names-few, clauses-few, column-fits}
+use Rattle.transform.specs.Listing.{partsOf, listing}
 use Rattle.program.specs.declared.Outcome.the-variants.{Complete, Full, Refused}
 use Rattle.fixpoint.specs.declared.FixpointAnswer.{FixpointAnswer}
-use Rattle.fixpoint.specs.Overwriting.{overwrite}
-use Rattle.fixpoint.specs.Answer.{listed, refused, Listed, runAnswer, runExit, Answered, literalsOf, vocabulary, transformOf, found, roomOf, refusal, answerOf}
+use Rattle.parts.specs.Overwriting.{overwrite, Overwrites}
+use Rattle.fixpoint.specs.Answer.{listed, refused, runAnswer, runExit, Answered, transformOf, found, roomOf, refusal, answerOf}
 use Rattle.fixpoint.specs.Answer.{exitOf, Fixes}
-use Rattle.fixpoint.proofs.Collecting.{parts-few}
 use Rattle.fixpoint.proofs.Size.{program-short}
 
 -- ---- the answer's two counts
@@ -47,26 +44,6 @@ listed-some count places h = let e : places ≡ min count places = omega arith i
 pub refused-is : (n : ℕ) → record { outcome = Refused n; written = 0 } ≡ refused n
 unfolding refused
 refused-is n = refl
-
-pub shorter-left : (x y : ℕ) → x < y → x ≡ min x y
-shorter-left x y h = omega arith
-
-pub shorter-right : (x y : ℕ) → y ≤ x → y ≡ min x y
-shorter-right x y h = omega arith
-
--- ---- the literal parts, listed
-pub parts-fit : (m : ℕ) (l out xs : List ℕ) (count k : ℕ) → Prefix (partsOf m (take count l)) out k → count ≤ length xs → length out ≡ length xs → k ≤ length out
-parts-fit m l out xs count k g h e = omega (arith, parts-few m l count, g .count)
-
--- they are words of the list
-pub small-parts : (m : ℕ) (l out : List ℕ) (k : ℕ) → Prefix (partsOf m l) out k → m ≤ 32 → Each (λ x. x < 2 ^ 32) (take k out)
-small-parts m l out k g h x i = ⊎-elim
-    (λ j. let s = map-in (literalPart m) x (sift (canonical m) l) j in
-    lt-of-lt-of-le (subst (λ z. z < 2 ^ m) (sym (s .2)) (mod-lt (s .0) (pow-pos m))) (pow-mono h))
-    (λ b. absurd b) (in-addAll x _ [] (subst (λ (z : List ℕ). x ∈ z) (g .words) i))
-
-pub listed-is : (l out : List ℕ) (k : ℕ) (xs xs′ : List ℕ) (r : FixpointAnswer) → Prefix l out k → r ≡ listed k (length xs) → xs′ ≡ overwrite xs (take k out) → Listed l xs xs′ r
-listed-is l out k xs xs′ r g a e = record { answer = a ∙ ap (λ (n : ℕ). listed n (length xs)) (g .count); exit = e ∙ ap (overwrite xs) (g .words) }
 
 -- ---- over a positive program, with working slices of one length
 module _ (Q : List WordRule) (room n : ℕ) (first second : List ℕ) (d : Minimals Q room n first second) where
@@ -84,15 +61,16 @@ module _ (Q : List WordRule) (room n : ℕ) (first second : List ℕ) (d : Minim
       go true c = record { answer = e ∙ rw c; exit = rw c }
       go false c = absurd (omega (arith, d .fits c))
 
-  pub answered : (m : ℕ) (xs out : List ℕ) (r : FixpointAnswer) → Listed (partsOf m (take n first)) xs out r → n ≤ room → Answered m Q room xs out r
+  pub answered : (m : ℕ) (xs out : List ℕ) (k : ℕ) (r : FixpointAnswer) → Overwrites (partsOf m (take n first)) xs out k → r ≡ listed k (length out)
+      → length out ≡ length xs → n ≤ room → Answered m Q room xs out r
   unfolding runAnswer runExit listing
-  answered m xs out r g h = go (crowded Q room) refl
+  answered m xs out k r g a l h = go (crowded Q room) refl
     where
       go : (c : Bool) → crowded Q room ≡ c → Answered m Q room xs out r
       go true c = absurd (omega (arith, d .count ∙ ap (λ (x : Bool). cond x (room + 1) (length (minimalModels Q))) c))
       go false c =
           let f : partsOf m (take n first) ≡ listing m Q = ap (partsOf m) (d .words c) in
-          record { answer = g .answer ∙ ap (λ (l : List ℕ). listed (length l) (length xs)) f ∙ rw c; exit = g .exit ∙ ap (overwrite xs) f ∙ rw c }
+          record { answer = a ∙ ap₂ listed (g .count ∙ ap length f) l ∙ rw c; exit = g .exit ∙ ap (overwrite xs) f ∙ rw c }
 
 -- ---- with any two: the first s places of both, where s is the shorter length
 module _ (xs ys : List ℕ) (s : ℕ) (e : s ≡ min (length xs) (length ys)) where
@@ -120,29 +98,15 @@ abbrev columns : Program → List Clause
 columns p = tabulate (clauseAt (p .heads) (p .bodies) (p .nafs)) (p .«clause_count»)
 
 module _ (p : Program) (v : valid p ≡ true) where
-  pub names-few : p .«atom_count» ≤ 12
-  names-few = valid-names p v .few
-
-  pub clauses-few : p .«clause_count» ≤ 64
-  clauses-few = valid-clauses p v .short
-
-  -- its columns are arrays of 64 places
-  pub column-fits : (xs : List ℕ) → length xs ≡ 64 → p .«clause_count» ≤ length xs
-  column-fits xs l = omega (arith, clauses-few)
-
   module _ (m : ℕ) (e : m ≡ literalsOf p) where
-    pub counted : (st : ℕ) → st ≡ allStandIns (columns p) → m + m + st ≡ vocabulary p
-    unfolding vocabulary members clauses rows
-    counted st h = omega (arith, e, h)
-
     pub table-over : length (p .heads) ≡ 64 → length (p .bodies) ≡ 64 → length (p .nafs) ≡ 64 → ClausesOver m (p .heads) (p .bodies) (p .nafs) (p .«clause_count»)
     unfolding clauses rows
     table-over hs bs ns = record {
-      literals = omega (arith, e, names-few);
-      few = clauses-few;
-      heads = column-fits (p .heads) hs;
-      bodies = column-fits (p .bodies) bs;
-      nafs = column-fits (p .nafs) ns;
+      literals = omega (arith, e, names-few p v);
+      few = clauses-few p v;
+      heads = column-fits p v (p .heads) hs;
+      bodies = column-fits p v (p .bodies) bs;
+      nafs = column-fits p v (p .nafs) ns;
       below = subst (λ k. Each (Below k) (columns p)) (sym e) (valid-below p v);
     }
 
@@ -154,9 +118,9 @@ module _ (p : Program) (v : valid p ≡ true) where
       short : length (kappaFrom m (m + m) (columns p)) ≤ 1120
       unfolding clauses rows
       short = program-short m _ (subst (λ k. Each (Below k) (columns p)) (sym e) (valid-below p v))
-          (let l = length-tabulate (clauseAt (p .heads) (p .bodies) (p .nafs)) (p .«clause_count») in omega (arith, clauses-few)) table-fits
+          (let l = length-tabulate (clauseAt (p .heads) (p .bodies) (p .nafs)) (p .«clause_count») in omega (arith, clauses-few p v)) table-fits
 
-      pub table-room : (xs ys : List ℕ) → length xs ≡ 1120 → length ys ≡ 1120 → Room (kappaFrom m (m + m) (columns p)) xs ys 0
+      pub table-room : (xs ys : List ℕ) → length xs ≡ 1120 → length ys ≡ 1120 → Places (kappaFrom m (m + m) (columns p)) xs ys 0
       table-room xs ys a b = record { heads = omega (arith, short); bodies = omega (arith, short) }
 
       module _ (xs ys xs′ ys′ : List ℕ) (n : ℕ) (g : Emits (kappaFrom m (m + m) (columns p)) xs ys 0 xs′ ys′ n) where
@@ -208,13 +172,5 @@ module _ (p : Program) (l₀ w₀ v₀ w v : List ℕ) (b : Bool) (is : b ≡ va
         go true c = record { says = rw c at (g .answer) ∙ rw (t, f, c); lists = rw c at (g .exit) ∙ rw (t, f, c); first-length = lw; second-length = lv }
         go false c = record { says = rw c at (g .answer) ∙ rw (t, f, c); lists = rw c at (g .exit) ∙ rw (t, f, c); first-length = lw; second-length = lv }
 
-pub ruleset evening = (first-there, second-there, one-length, evened)
-
-pub ruleset listing-laws = (listed-all, listed-some, refused-is, shorter-left, shorter-right, parts-fit, listed-is, small-parts)
-
--- what `search` is handed over a positive program, and over a table
-pub ruleset answering = (listing-laws, first-fits, second-fits, refused-crowded, answered, evening, needs)
-
-pub ruleset columns-laws = (names-few, clauses-few, column-fits, counted, table-over, table-fits, table-room, heads-there, bodies-there, length-replicate)
-
-pub ruleset tables = (columns-laws, table-answered, is-table, few-members, no-table, too-many, fixed, needs)
+-- what `search` is handed where the transform of a table is put out
+pub ruleset tables = (names-few, clauses-few, column-fits, table-over, table-fits, table-room, heads-there, bodies-there, length-replicate, table-answered, needs)

@@ -18,7 +18,8 @@ use Rattle.stages.proofs.Run.{run-ends}
 use Rattle.stages.proofs.Minimal.{alike-words}
 use Rattle.transform.specs.Transform.{kappaFrom, members}
 use Rattle.transform.proofs.Theory.{transformed, vocabularySize, kappa-is, members-are}
-use Rattle.fixpoint.specs.Answer.{literalsOf, vocabulary, transformOf}
+use Rattle.vocabulary.specs.Vocabulary.{literalsOf, vocabulary}
+use Rattle.fixpoint.specs.Answer.{transformOf}
 use Rattle.fixpoint.proofs.Theorem.{heads}
 
 module _ (m : ℕ) (C : List Clause) (small : m ≤ 64) (under : Each (Below m) C) (fits : members m C ≤ 64) where

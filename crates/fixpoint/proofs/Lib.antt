@@ -3,5 +3,4 @@ pub mod Theorem
 pub mod Lists
 pub mod Ending
 pub mod Size
-pub mod Collecting
 pub mod Answering

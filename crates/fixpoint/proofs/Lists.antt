@@ -19,7 +19,8 @@ use Rattle.operator.specs.Operator.{WordRule}
 use Rattle.transform.specs.Transform.{kappaFrom, members}
 use Rattle.transform.proofs.Theory.{transformed, vocabularySize, kappa-is, members-are}
 use Rattle.transform.specs.Listing.{listing}
-use Rattle.fixpoint.specs.Answer.{literalsOf, vocabulary, transformOf, found}
+use Rattle.vocabulary.specs.Vocabulary.{literalsOf, vocabulary}
+use Rattle.fixpoint.specs.Answer.{transformOf, found}
 use Rattle.fixpoint.proofs.Theorem.{listing-rising, listing-sound, listing-complete}
 
 module _ (m : ℕ) (C : List Clause) (small : m ≤ 64) (under : Each (Below m) C) (fits : members m C ≤ 64) where

@@ -17,7 +17,7 @@ use Rattle.program.specs.Clauses.{Clause, Below}
 use Rattle.rising.specs.Literals.{literals}
 use Rattle.operator.specs.Operator.{WordRule}
 use Rattle.transform.specs.Transform.{Stand, numbered, rule, clauseB, clauseC, clauseD, rewritten, becomes, standIns, kappaFrom, allStandIns, members}
-use Rattle.transform.proofs.Emitting.{literals-length}
+use Rattle.rising.proofs.Literals.{literals-length}
 
 -- ---- how many clauses the transform makes
 

@@ -2,7 +2,7 @@
 use mathlib.Core.Path.{_≡_}
 use mathlib.Core.Bool.{Bool, cond, not}
 use mathlib.Core.List.{List, [], _∷_}
-use Prim.Native.Nat.{ℕ, _+_, _*_, min}
+use Prim.Native.Nat.{ℕ, _+_, min}
 use lib.Dec.{eqb, leb, ltb}
 use lib.ListN.{length}
 use Rattle.program.specs.declared.Program.{Program}
@@ -11,11 +11,12 @@ use Rattle.program.specs.Valid.{valid}
 use Rattle.program.specs.Refusals.{lowest}
 use Rattle.operator.specs.Operator.{WordRule}
 use Rattle.stages.specs.Run.{crowded}
-use Rattle.transform.specs.Transform.{kappaFrom, members}
+use Rattle.transform.specs.Transform.{kappaFrom}
+use Rattle.vocabulary.specs.Vocabulary.{literalsOf, vocabulary}
 use Rattle.program.specs.declared.Outcome.the-variants.{Complete, Full, Refused}
 use Rattle.fixpoint.specs.declared.FixpointAnswer.{FixpointAnswer}
 use Rattle.transform.specs.Listing.{listing}
-use Rattle.fixpoint.specs.Overwriting.{overwrite}
+use Rattle.parts.specs.Overwriting.{overwrite}
 
 -- "Outcome: complete, or full if the list is too short for them all; it then holds the lowest ones, as many as fit."
 unfoldable pub listed : ℕ → ℕ → FixpointAnswer
@@ -24,11 +25,6 @@ listed count places = record { outcome = cond (leb count places) Complete Full; 
 -- "A refusal carries its number .. and counts are 0."
 unfoldable pub refused : ℕ → FixpointAnswer
 refused n = record { outcome = Refused n; written = 0 }
-
--- the answer and the list at exit where the words l are to be listed
-pub record Listed (l xs out : List ℕ) (r : FixpointAnswer) : Type 0 where
-  pub answer : r ≡ listed (length l) (length xs)
-  pub exit : out ≡ overwrite xs l
 
 -- ---- over a positive program of words whose m lowest members are the literals
 unfoldable pub runAnswer : ℕ → List WordRule → ℕ → ℕ → FixpointAnswer
@@ -42,13 +38,6 @@ pub record Answered (m : ℕ) (Q : List WordRule) (room : ℕ) (xs out : List �
   pub exit : out ≡ runExit m Q room xs
 
 -- ---- the fixpoint of a table
--- the literals of its names; "The vocabulary has W members: 4n and one for each stand-in."
-abbrev pub literalsOf : Program → ℕ
-literalsOf p = 2 * p .«atom_count»
-
-unfoldable pub vocabulary : Program → ℕ
-vocabulary p = members (literalsOf p) (clauses p)
-
 -- its transform: literals at 0 to 2n - 1, K of each 2n higher, stand-ins from 4n on
 unfoldable pub transformOf : Program → List WordRule
 transformOf p = kappaFrom (literalsOf p) (literalsOf p + literalsOf p) (clauses p)

@@ -1,3 +1,2 @@
 -- What the fixpoint answers and lists; the laws and theorems stand in proofs/.
-pub mod Overwriting
 pub mod Answer

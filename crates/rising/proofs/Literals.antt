@@ -1,8 +1,9 @@
 -- The literals of a word, lowest first, and a word without its lowest. Assumes nothing.
 use Prim.Native.Nat.{ℕ, zero, suc, _+_, _-_, _*_, _/_, _%_, _^_, _≤_, _<_}
 use lib.Bits.{bitAnd, bitOr, and-step, and-self, and-le-r}
-use lib.Count.{trailingZeros, under}
+use lib.Count.{trailingZeros, under, ones, ones-step, ones-le}
 use lib.Dec.{T, eqb, lit<}
+use lib.ListN.{length}
 use lib.Pow.{shl-exact}
 use mathlib.Core.Bool.{Bool, true, false, not, _&&_, _||_}
 use mathlib.Core.List.{List, [], _∷_}
@@ -134,6 +135,24 @@ bits-none (suc k) p = bits-none k (p + 1)
 
 pub literals-none : literals 0 ≡ []
 literals-none = bits-none 64 0
+
+-- ---- how many literals a word has
+
+here-length : (d p : ℕ) (l : List ℕ) → d < 2 → length (here d p l) ≡ d + length l
+here-length zero p l h = omega arith
+here-length (suc d) p l h = omega arith
+
+bits-length : (k p s : ℕ) → s < 2 ^ k → length (bitsFrom k p s) ≡ ones s
+unfolding bitsFrom ones
+bits-length zero p s h = let e : 0 ≡ s = omega arith in ap ones e
+bits-length (suc k) p s h = here-length (s % 2) p (bitsFrom k (p + 1) (s / 2)) (omega arith)
+    ∙ ap (λ (n : ℕ). s % 2 + n) (bits-length k (p + 1) (s / 2) (let e = pow-suc 2 k in omega arith)) ∙ sym (ones-step s)
+
+pub literals-length : (w : ℕ) → w < 2 ^ 64 → length (literals w) ≡ ones w
+literals-length w h = bits-length 64 0 w h
+
+pub literals-few : (w : ℕ) → w < 2 ^ 64 → length (literals w) ≤ 64
+literals-few w h = let e = literals-length w h in let o = ones-le 64 w h in omega arith
 
 -- ---- a word without a part of it
 

@@ -3,5 +3,4 @@ pub mod Bridge
 pub mod Run
 pub mod Minimal
 pub mod Iterating
-pub mod Selecting
-pub mod Rules
+pub mod Taking

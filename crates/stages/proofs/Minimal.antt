@@ -1,13 +1,11 @@
 -- What is taken of the stage that ends the run. Assumes nothing.
-use Prim.Native.Nat.{ℕ, suc, _≤_, _<_}
+use Prim.Native.Nat.{ℕ, suc, _<_}
 use lib.Bits.{bitAnd}
 use lib.Dec.{T, eqb, eqb→eq, eqb-refl, T-not, not-T}
-use lib.ListN.{length}
 use mathlib.Core.Bool.{Bool, true, false, not, cond, _&&_, _||_}
 use mathlib.Core.List.{List, [], _∷_, map}
 use mathlib.Core.Logic.{_⊎_, inl, inr}
 use mathlib.Core.Path.{_≡_, refl, sym, ap, subst}
-use native.Mathlib.Omega.{arith}
 use Rattle.epistemic.proofs.WordMain.{WSame, WMinimal, wsat, wmodel}
 use Rattle.epistemic.proofs.Words.{mask-in, mask-out, wstage}
 use Rattle.epistemic.specs.Positive.{Rule}
@@ -18,28 +16,9 @@ use Rattle.sets.specs.Words.{inside, mask}
 use Rattle.stages.proofs.Bridge.{Corresponds, stage-to, stage-of}
 use Rattle.rising.proofs.Literals.{lit-in, lit-out}
 use Rattle.stages.proofs.Run.{rests-at}
-use Rattle.stages.specs.Minimal.{violates, satisfies, properIn, leastIn, minimals}
+use Rattle.minimal.specs.Minimal.{violates, satisfies, properIn, leastIn, minimals}
 use Rattle.operator.specs.Operator.{WordRule, next, stage}
 use Rattle.stages.specs.Run.{finalStage, ending}
-
--- ---- laws
-
-pub sift-one : (t : ℕ → Bool) (x : ℕ) (l : List ℕ) → sift t (x ∷ l) ≡ cond (t x) (x ∷ sift t l) (sift t l)
-unfolding sift
-sift-one t x l = refl
-
-pub sift-none : (t : ℕ → Bool) → sift t [] ≡ []
-unfolding sift
-sift-none t = refl
-
-pub sift-short : (t : ℕ → Bool) (l : List ℕ) → length (sift t l) ≤ length l
-unfolding sift
-sift-short t [] = omega arith
-sift-short t (x ∷ l) = go (t x) (sift-short t l)
-  where
-    go : (b : Bool) → length (sift t l) ≤ length l → length (cond b (x ∷ sift t l) (sift t l)) ≤ suc (length l)
-    go true h = omega arith
-    go false h = omega arith
 
 -- ---- members that pass
 

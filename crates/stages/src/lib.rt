@@ -1,13 +1,12 @@
 // The run of the stages of a positive program on 64-bit words, in two lent slices, and the minimal models in the stage that ends it.
 ghost use mathlib.Core.Path.{_≡_};
 ghost use Prim.Native.Nat.{_+_, _-_, _≤_, _<_};
-ghost use lib.ListN.{length, take};
-ghost use Rattle.sets.specs.Lists.{sift, anyOf, tabulate};
+ghost use lib.ListN.{length};
+ghost use Rattle.sets.specs.Lists.{tabulate};
 ghost use Rattle.lists.specs.Bytes.{same};
-ghost use Rattle.rising.specs.Slices.{Prefix};
 ghost use Rattle.operator.specs.Operator.{ruleAt};
 ghost use Rattle.stages.specs.Run.{Iterating, Iterated};
-ghost use Rattle.stages.specs.Minimal.{violates, satisfies, properIn, leastIn, minimals, Minimals};
+ghost use Rattle.stages.specs.Minimal.{Minimals};
 
 // Whether two slices hold the same words.
 fn same_words(a: &[u64], b: &[u64]) -> bool
@@ -50,124 +49,6 @@ fn iterate<'a>(
     iterate(heads, bodies, count, second, n, first, k + 1)
 }
 
-// Whether `w` contains the clause's body and meets its head nowhere.
-fn violates_at(head: u64, body: u64, w: u64) -> bool
-    ensures { λ r. ⌜ r ≡ violates w (record { head = head; body = body }) ⌝ }
-{
-    (body & w == body) & (head & w == 0)
-}
-
-// Whether `w` violates some clause.
-fn violated<'a>(heads: &'a [u64], bodies: &'a [u64], count: usize, w: u64) -> bool
-    requires { ⌜ (count ≤ length (now heads)) × (count ≤ length (now bodies)) ⌝ }
-    ensures { λ r. ⌜ r ≡ anyOf (violates w) (tabulate (ruleAt (now (heads .entry)) (now (bodies .entry))) count) ⌝ }
-{
-    let mut k: usize = 0;
-    while k < count {
-        if violates_at(heads[k], bodies[k], w) {
-            return true;
-        }
-        k += 1;
-    }
-    false
-}
-
-// Whether `w` satisfies every clause.
-fn satisfied<'a>(heads: &'a [u64], bodies: &'a [u64], count: usize, w: u64) -> bool
-    requires { ⌜ (count ≤ length (now heads)) × (count ≤ length (now bodies)) ⌝ }
-    ensures { λ r. ⌜ r ≡ satisfies (tabulate (ruleAt (now (heads .entry)) (now (bodies .entry))) count) w ⌝ }
-{
-    !violated(heads, bodies, count, w)
-}
-
-// Copies into `kept` the members that satisfy every clause.
-fn keep_models<'a>(
-    heads: &'a [u64],
-    bodies: &'a [u64],
-    count: usize,
-    stage: &'a [u64],
-    kept: &mut [u64],
-) -> usize
-    requires { ⌜ (count ≤ length (now heads)) × (count ≤ length (now bodies)) × (length (now stage) ≤ length (now kept)) ⌝ }
-    ensures { λ r. ⌜ Prefix (sift (satisfies (tabulate (ruleAt (now (heads .entry)) (now (bodies .entry))) count)) (now (stage .entry))) (now (kept .exit)) r ⌝ }
-{
-    let mut n: usize = 0;
-    let mut p: usize = 0;
-    while p < stage.len() {
-        if satisfied(heads, bodies, count, stage[p]) {
-            kept[n] = stage[p];
-            n += 1;
-            p += 1;
-        } else {
-            p += 1;
-        }
-    }
-    n
-}
-
-// Whether `v` is a proper subset of `w`.
-fn properly(v: u64, w: u64) -> bool
-    ensures { λ r. ⌜ r ≡ properIn w v ⌝ }
-{
-    (v & w == v) & (v != w)
-}
-
-// Whether some word of the list is a proper subset of `w`.
-fn smaller(list: &[u64], w: u64) -> bool
-    ensures { λ r. ⌜ r ≡ anyOf (properIn w) (now (list .entry)) ⌝ }
-{
-    let mut q: usize = 0;
-    while q < list.len() {
-        if properly(list[q], w) {
-            return true;
-        }
-        q += 1;
-    }
-    false
-}
-
-// Whether no word of the list is a proper subset of `w`.
-fn minimal_among(list: &[u64], w: u64) -> bool
-    ensures { λ r. ⌜ r ≡ leastIn (now (list .entry)) w ⌝ }
-{
-    !smaller(list, w)
-}
-
-// Copies into `kept` the minimal words of the list.
-fn keep_minimal(list: &[u64], kept: &mut [u64]) -> usize
-    requires { ⌜ length (now list) ≤ length (now kept) ⌝ }
-    ensures { λ r. ⌜ Prefix (sift (leastIn (now (list .entry))) (now (list .entry))) (now (kept .exit)) r ⌝ }
-{
-    let mut n: usize = 0;
-    let mut p: usize = 0;
-    while p < list.len() {
-        if minimal_among(list, list[p]) {
-            kept[n] = list[p];
-            n += 1;
-            p += 1;
-        } else {
-            p += 1;
-        }
-    }
-    n
-}
-
-// Leaves the minimal ones of the members that satisfy every clause at the start of `first`, in whose first places the members stand.
-fn minimal_of<'a>(
-    heads: &'a [u64],
-    bodies: &'a [u64],
-    count: usize,
-    first: &mut [u64],
-    members: usize,
-    second: &mut [u64],
-) -> usize
-    requires { ⌜ (count ≤ length (now heads)) × (count ≤ length (now bodies)) × (members ≤ length (now first)) × (members ≤ length (now second)) ⌝ }
-    ensures { λ r. ⌜ Prefix (minimals (sift (satisfies (tabulate (ruleAt (now (heads .entry)) (now (bodies .entry))) count)) (take members (now (first .entry))))) (now (first .exit)) r ⌝ }
-{
-    let k = keep_models(heads, bodies, count, &first[..members], second);
-    keep_minimal(&second[..k], first)
-}
-
 // Leaves the minimal models at the start of `first`, from stage 0, which stands in its first place.
 fn minimal_from<'a>(
     heads: &'a [u64],
@@ -185,7 +66,7 @@ fn minimal_from<'a>(
     if room < n {
         return n;
     }
-    minimal_of(heads, bodies, count, first, n, second)
+    minimal::minimal_of(heads, bodies, count, first, n, second)
 }
 
 // Forms the stages of a positive program in two working slices of one length, and leaves its minimal models, rising, at the start of the first.

@@ -13,7 +13,8 @@ use Rattle.rising.specs.RisingSets.{insertInto, addAll}
 use Rattle.rising.specs.Literals.{bitsFrom}
 use Rattle.operator.specs.Operator.{WordRule, choices, next, stage}
 use Rattle.stages.specs.Run.{resting, ending, finalStage}
-use Rattle.stages.specs.Minimal.{minimals, minimalModels}
+use Rattle.minimal.specs.Minimal.{minimals}
+use Rattle.stages.specs.Minimal.{minimalModels}
 use Rattle.transform.specs.Transform.{numbered, rewritten, becomes, standIns, allStandIns, kappaFrom, members}
 use Rattle.transform.specs.Listing.{canonical, listing}
 

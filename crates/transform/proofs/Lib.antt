@@ -1,7 +1,3 @@
--- What the transform is, and laws of the routines that put it out.
+-- What the transform is.
 pub mod BooksHold
 pub mod Theory
-pub mod Emit
-pub mod Emitting
-pub mod Becoming
-pub mod Rewriting

@@ -1,4 +1,3 @@
 -- The epistemic transform of a program on words; the laws stand in proofs/.
 pub mod Transform
 pub mod Listing
-pub mod Emit

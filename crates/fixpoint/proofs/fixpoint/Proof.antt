@@ -1,8 +1,9 @@
 -- One law for each way out: no table, too many members, and what the table's fixpoint answers. Assumes nothing.
-use Rattle.fixpoint.proofs.Answering.{tables}
+use borrow.Author.Needs.{needs}
+use Rattle.fixpoint.proofs.Answering.{few-members, fixed, is-table, no-table, too-many}
 use Rattle.fixpoint.proofs.fixpoint.Statement.{statement}
 use Rattle.fixpoint.proofs.fixpoint.Tie as tie
 
 pub fixpoint-spec : {M : Type 1} → statement M
-fixpoint-spec = tie.close (tie.spec (λ c. search tables) (λ c. search tables) (λ c. search tables) (λ c. search tables) (λ c. search tables)
-    (λ c. search tables) (λ c. search tables) (λ c. search tables) (λ c. search tables) (λ c. search tables) (λ c. search tables))
+fixpoint-spec = tie.close (tie.spec (λ c. search needs) (λ c. search needs) (λ c. search no-table) (λ c. search is-table) (λ c. search needs)
+    (λ c. search too-many) (λ c. search (is-table, few-members)) (λ c. search needs) (λ c. search needs) (λ c. search needs) (λ c. search fixed))

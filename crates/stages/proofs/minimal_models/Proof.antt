@@ -1,7 +1,8 @@
 -- `stages::minimal_models` meets its contract: stage 0 stands in the first place, and no place is no room for it. Assumes nothing.
 use mathlib.Core.Path.{_∙_}
 use lib.ListN.{length-set}
-use Rattle.stages.proofs.Rules.{rules}
+use borrow.Author.Needs.{needs}
+use Rattle.stages.proofs.Taking.{begins, minimals-empty, minimals-as}
 use Rattle.stages.proofs.minimal_models.Statement.{statement}
 use Rattle.stages.proofs.minimal_models.Tie as tie
 
@@ -9,4 +10,5 @@ same-length : tie.Need-same-length
 same-length c = c .before .before .before .before .minimal-from .kept .1 .1 .1 .0 ∙ simp length-set
 
 pub minimal-models-spec : {M : Type 1} → statement M
-minimal-models-spec = tie.close (tie.spec (λ c. search rules) (λ c. search rules) (λ c. search rules) same-length (λ c. search rules) (λ c. search rules))
+minimal-models-spec = tie.close (tie.spec (λ c. search minimals-empty) (λ c. search needs) (λ c. search (begins, needs)) same-length
+    (λ c. search needs) (λ c. search minimals-as))

@@ -1,0 +1,2 @@
+-- Laws of clauses put one behind the other.
+pub mod Emit

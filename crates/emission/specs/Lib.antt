@@ -1,0 +1,2 @@
+-- Clauses put one behind the other; the laws stand in proofs/.
+pub mod Emit

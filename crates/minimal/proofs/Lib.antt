@@ -1,0 +1,2 @@
+-- Laws of the routines that select the minimal models.
+pub mod Selecting

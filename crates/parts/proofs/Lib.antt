@@ -1,0 +1,2 @@
+-- Laws of the literal parts, collected and written.
+pub mod Collecting

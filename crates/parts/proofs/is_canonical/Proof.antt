@@ -1,0 +1,8 @@
+-- The parts of literals and of beliefs, compared as sets. Assumes nothing.
+use borrow.Author.Needs.{needs}
+use Rattle.parts.proofs.Collecting.{canonical-is}
+use Rattle.parts.proofs.is_canonical.Statement.{statement}
+use Rattle.parts.proofs.is_canonical.Tie as tie
+
+pub is-canonical-spec : {M : Type 1} → statement M
+is-canonical-spec = tie.close (tie.spec (λ c. search needs) (λ c. search needs) (λ c. search needs) (λ c. search needs) (λ c. search canonical-is))

@@ -1,0 +1,3 @@
+-- Laws of the routines that put out the transform.
+pub mod Becoming
+pub mod Rewriting

@@ -1,0 +1,3 @@
+-- Laws of the routines that put out (b), (c) and (d).
+pub mod Walk
+pub mod Emitting
