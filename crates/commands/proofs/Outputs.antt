@@ -5,7 +5,7 @@ use Prim.Native.Nat.{ℕ}
 use Rattle.text.specs.Refusals.{refusal}
 use Rattle.text.specs.Reading.{readOf, IsAccepted}
 use Rattle.text.proofs.RoundTrip.{refused, written-back}
-use Rattle.lines.specs.Printed.{refusedLine}
+use Rattle.wording.specs.Printed.{refusedLine}
 use Rattle.printing.specs.Texts.{unlessRefused, allowance}
 use Rattle.commands.specs.declared.Command.{Command}
 use Rattle.commands.specs.declared.Command.the-variants.{Search, Write}

@@ -19,9 +19,11 @@ use Rattle.text.specs.Refusals.{wrongSize, refusal}
 use Rattle.text.specs.Reading.{readOf, IsAccepted}
 use Rattle.text.specs.Render.{render}
 use Rattle.text.proofs.RoundTrip as trip
-use Rattle.lines.specs.Printed.{refusedLine}
+use Rattle.wording.specs.Printed.{refusedLine}
 use Rattle.printing.specs.Ready.{mostBytes, Ready}
-use Rattle.printing.specs.Texts.{unlessRefused, checkText, lentList, searchText, allowance}
+use Rattle.printing.specs.Texts.{unlessRefused, lentList, allowance}
+use Rattle.checking.specs.Texts.{checkText}
+use Rattle.searching.specs.Texts.{searchText}
 use Rattle.fixing.specs.Texts.{workSlice, fixpointText}
 use Rattle.summing.specs.Texts.{summaryText}
 use Rattle.commands.specs.declared.Command.{Command}

@@ -3,7 +3,9 @@ use mathlib.Core.List.{List}
 use Prim.Native.Nat.{ℕ}
 use Rattle.program.specs.declared.Program.{Program}
 use Rattle.text.specs.Render.{render}
-use Rattle.printing.specs.Texts.{checkText, lentList, searchText, allowance, lent}
+use Rattle.printing.specs.Texts.{lentList, allowance, lent}
+use Rattle.checking.specs.Texts.{checkText}
+use Rattle.searching.specs.Texts.{searchText}
 use Rattle.fixing.specs.Texts.{workSlice, fixpointText}
 use Rattle.summing.specs.Texts.{summaryText}
 use Rattle.commands.specs.declared.Command.{Command}

@@ -27,8 +27,8 @@ fn put_command(p: Program, command: Command, numbers: &[u32], bytes: &[u8], out:
     ensures { λ r. ⌜ Wrote (textOf command (now (numbers .entry)) (now (bytes .entry)) p) (now (out .entry)) r (now (out .exit)) ⌝ }
 {
     match command {
-        Command::Check(word) => printing::put_check(p, word, out),
-        Command::Search(node_limit, places) => printing::put_search(p, node_limit, places, out),
+        Command::Check(word) => checking::put_check(p, word, out),
+        Command::Search(node_limit, places) => searching::put_search(p, node_limit, places, out),
         Command::Fixpoint(places, capacity) => fixing::put_fixpoint(p, places, capacity, out),
         Command::Summary => summing::put_summary(p, out),
         Command::Write => summing::put_written(p, out),

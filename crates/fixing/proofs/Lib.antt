@@ -1,3 +1,2 @@
 -- The laws of what is printed.
 pub mod Texts
-pub mod Rules

@@ -15,17 +15,16 @@ use Rattle.program.specs.declared.Program.{Program}
 use Rattle.program.specs.declared.Outcome.{Outcome}
 use Rattle.program.specs.declared.Outcome.the-variants as outcome
 use Rattle.program.proofs.Outcome.{the-type}
+use Rattle.wording.specs.Printed.{outcomeWord, numbered, refusedLine}
+use Rattle.wording.proofs.Bounds.{numbered-most, outcome-most}
+use Rattle.listings.specs.Listing.{listing}
 use Rattle.fixpoint.specs.declared.FixpointAnswer.{FixpointAnswer}
 use Rattle.parts.specs.Overwriting.{overwrite}
 use Rattle.fixpoint.specs.Answer as fixed
 use Rattle.fixpoint.specs.Answer.{Fixes, roomOf}
-use Rattle.lines.specs.Printed.{outcomeWord, numbered, refusedLine}
-use Rattle.listings.specs.Listing.{listing}
-use Rattle.lines.proofs.Bounds.{numbered-most, outcome-most}
-use Rattle.printing.specs.Ready.{Lent}
-use Rattle.printing.specs.Texts.{lentList}
+use Rattle.printing.specs.Ready.{ReadyToList}
+use Rattle.printing.specs.Texts.{unlessRefused, lentList}
 use Rattle.printing.proofs.Texts.{zeros, cut-zeros}
-use Rattle.printing.specs.Texts.{unlessRefused}
 use Rattle.fixing.specs.Texts.{unlessEnded, workSlice, fixedText, fixpointText}
 
 -- ---- the line of the outcome
@@ -87,8 +86,8 @@ module _ (p : Program) (l w v : List ℕ) (a : FixpointAnswer) (ms w′ v′ : L
   pub fixed-long : a .written ≡ length (take (a .written) ms)
   fixed-long = sym (length-take-le (a .written) ms fixed-here)
 
-  pub fixed-lent : (xs : List ℕ) → Lent p l xs → Lent p (take (a .written) ms) xs
-  fixed-lent xs q = let h = q .short in record { ready = q .ready; short = omega (arith, fixed-places, fixed-long) }
+  pub fixed-ready : (xs : List ℕ) → ReadyToList p l xs → ReadyToList p (take (a .written) ms) xs
+  fixed-ready xs q = let h = q .short in record { ready = q .ready; short = omega (arith, fixed-places, fixed-long) }
 
   pub fixpoint-wrote : (xs : List ℕ) (r : ℕ) (ys : List ℕ) → Wrote (fixedText p (take (a .written) ms) (a .outcome) (a .written)) xs r ys → Wrote (fixpointText l w v p) xs r ys
   unfolding fixpointText

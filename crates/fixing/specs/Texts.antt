@@ -5,10 +5,10 @@ use lib.ListN.{take, replicate}
 use Rattle.program.specs.declared.Program.{Program}
 use Rattle.program.specs.declared.Outcome.{Outcome}
 use Rattle.program.specs.Refusals.{ofOutcome}
+use Rattle.wording.specs.Printed.{outcomeWord, numbered}
+use Rattle.listings.specs.Listing.{listing}
 use Rattle.fixpoint.specs.declared.FixpointAnswer.{FixpointAnswer}
 use Rattle.fixpoint.specs.Answer as fixed
-use Rattle.lines.specs.Printed.{outcomeWord, numbered}
-use Rattle.listings.specs.Listing.{listing}
 use Rattle.printing.specs.Texts.{unlessRefused}
 
 -- "If refused it prints only one such line": the text t where the outcome is no refusal

@@ -2,9 +2,9 @@
 ghost use mathlib.Core.Path.{_≡_};
 ghost use mathlib.Core.List.{_++_};
 ghost use Rattle.lists.specs.Bytes.{Wrote};
-ghost use Rattle.lines.specs.Printed.{outcomeWord, numbered};
+ghost use Rattle.wording.specs.Printed.{outcomeWord, numbered};
 ghost use Rattle.listings.specs.Listing.{listing};
-ghost use Rattle.printing.specs.Ready.{Ready, Lent};
+ghost use Rattle.printing.specs.Ready.{Ready, ReadyToList};
 ghost use Rattle.printing.specs.Texts.{lentList};
 ghost use Rattle.fixing.specs.Texts.{workSlice, fixedText, fixpointText};
 use printing::MOST_PLACES;
@@ -16,17 +16,17 @@ pub const MOST_WORDS: usize = 65536;
 
 // The models, and the line of an outcome with the models written.
 fn put_ended(p: Program, words: &[u32], outcome: Outcome, m: usize, out: &mut [u8]) -> usize
-    requires { ⌜ Lent p (now words) (now out) ⌝ }
+    requires { ⌜ ReadyToList p (now words) (now out) ⌝ }
     ensures { λ r. ⌜ Wrote (listing p (now (words .entry)) ++ numbered (outcomeWord outcome) m) (now (out .entry)) r (now (out .exit)) ⌝ }
 {
     let a = printing::put_models(p, words, out);
-    let b = lines::put_outcome_line(&mut out[a..], outcome, m as u64);
+    let b = wording::put_outcome_line(&mut out[a..], outcome, m as u64);
     a + b
 }
 
 // The line of a refusal, or the models and the line of the outcome.
 fn put_fixed(p: Program, words: &[u32], outcome: Outcome, m: usize, out: &mut [u8]) -> usize
-    requires { ⌜ Lent p (now words) (now out) ⌝ }
+    requires { ⌜ ReadyToList p (now words) (now out) ⌝ }
     ensures { λ r. ⌜ Wrote (fixedText p (now (words .entry)) outcome m) (now (out .entry)) r (now (out .exit)) ⌝ }
 {
     match outcome {
@@ -43,7 +43,7 @@ fn put_steps(
     second: &mut [u64],
     out: &mut [u8],
 ) -> usize
-    requires { ⌜ Lent p (now models) (now out) ⌝ }
+    requires { ⌜ ReadyToList p (now models) (now out) ⌝ }
     ensures { λ r. ⌜ Wrote (fixpointText (now (models .entry)) (now (first .entry)) (now (second .entry)) p) (now (out .entry)) r (now (out .exit)) ⌝ }
 {
     let a = fixpoint::fixpoint(p, models, first, second);
@@ -57,8 +57,8 @@ pub fn put_fixpoint(p: Program, places: usize, capacity: usize, out: &mut [u8]) 
     requires { ⌜ Ready p (now out) ⌝ }
     ensures { λ r. ⌜ Wrote (fixpointText (lentList places) (workSlice capacity) (workSlice capacity) p) (now (out .entry)) r (now (out .exit)) ⌝ }
 {
-    let n = printing::least(places, MOST_PLACES);
-    let c = printing::least(capacity, MOST_WORDS);
+    let n = lists::least(places, MOST_PLACES);
+    let c = lists::least(capacity, MOST_WORDS);
     let mut models = [0u32; MOST_PLACES];
     let mut first = [0u64; MOST_WORDS];
     let mut second = [0u64; MOST_WORDS];

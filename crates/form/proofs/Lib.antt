@@ -1,3 +1,2 @@
--- The laws of the tests' loops.
-pub mod Items
-pub mod Rules
+-- The laws of the opening's tests.
+pub mod Opening

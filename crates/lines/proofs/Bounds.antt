@@ -1,22 +1,19 @@
--- How long a line is: names of up to 8 bytes, numbers of so many digits, and a word before them. Assumes nothing.
+-- How long a line is: names of up to 8 bytes, numbers of so many digits. Assumes nothing.
 use mathlib.Core.Path.{_≡_, sym, ap, _∙_}
-use mathlib.Core.List.{List, [], _∷_, _++_, flatMap}
+use mathlib.Core.List.{List, [], _∷_, flatMap}
 use Prim.Native.Nat.{ℕ, zero, suc, _+_, _*_, _^_, _≤_, _<_}
 use native.Mathlib.Omega.{arith}
 use lib.ListN.{length, getD, length-append}
 use lib.Seq.{take-length}
 use Rattle.sets.specs.Lists.{upFrom, tabulate}
 use Rattle.sets.proofs.Lists.{onward-start}
-use Rattle.decimal.specs.Decimal.{decimal}
-use Rattle.decimal.proofs.Laws.{decimal-short}
-use Rattle.program.specs.declared.Outcome.{Outcome}
-use Rattle.program.specs.declared.Outcome.the-variants as ended
 use Rattle.program.specs.Names.{nameAt}
 use Rattle.program.specs.Values.{valueIn}
+use Rattle.decimal.specs.Decimal.{decimal}
+use Rattle.decimal.proofs.Laws.{decimal-short}
 use Rattle.text.specs.Lines.{namesLine, valuesLine}
 use Rattle.lines.specs.Laying.{separator, item}
-use Rattle.lines.specs.Printed.{refusedWord, outcomeWord, worded, numbered, refusedLine, lastLine}
-use Rattle.lines.proofs.Laying.{laid, names-laid, firsts, row-laid, worded-is}
+use Rattle.lines.proofs.Laying.{laid, names-laid, firsts, row-laid}
 use Rattle.lines.proofs.Names.{name-most}
 
 -- n pieces of at most b bytes
@@ -46,44 +43,6 @@ pub values-most : (vs : List ℕ) (k : ℕ) → 1 ≤ length vs → ((i : ℕ) �
 values-most vs k h d =
     let e : vs ≡ tabulate (λ i. getD vs i 0) (length vs) = sym (take-length vs) ∙ firsts vs (length vs) (omega arith) in
     omega (arith, row-most (λ i. getD vs i 0) (length vs) k h d, ap (λ (l : List ℕ). length (valuesLine l)) e)
-
--- ---- a line of a word and numbers
-worded-most : (w vs : List ℕ) → 1 ≤ length vs → ((i : ℕ) → i < length vs → getD vs i 0 < 2 ^ 64) → length (worded w vs) ≤ length w + 1 + 21 * length vs
-worded-most w vs h d = omega (
-  arith,
-  ap length (worded-is w vs h),
-  length-append (w ++ 32 ∷ []) (valuesLine vs),
-  length-append w (32 ∷ []),
-  values-most vs 19 h (λ i l. omega (arith, d i l)),
-)
-
-pub numbered-most : (w : List ℕ) (v : ℕ) → v < 2 ^ 64 → length (numbered w v) ≤ length w + 22
-unfolding numbered
-numbered-most w v h = let q = worded-most w (v ∷ []) (omega arith) each in omega arith
-  where
-    each : (i : ℕ) → i < 1 → getD (v ∷ []) i 0 < 2 ^ 64
-    each zero l = h
-    each (suc i) l = absurd (omega arith)
-
-pub refused-most : (r : ℕ) → r < 2 ^ 64 → length (refusedLine r) ≤ 64
-unfolding refusedLine refusedWord
-refused-most r h = omega (arith, numbered-most refusedWord r h)
-
-pub outcome-most : (o : Outcome) → length (outcomeWord o) ≤ 8
-unfolding outcomeWord refusedWord
-outcome-most ended.Complete = omega arith
-outcome-most ended.Full = omega arith
-outcome-most ended.Spent = omega arith
-outcome-most (ended.Refused n) = omega arith
-
-pub last-most : (o : Outcome) (m v : ℕ) → m < 2 ^ 64 → v < 2 ^ 64 → length (lastLine o m v) ≤ 64
-unfolding lastLine
-last-most o m v h k = let q = worded-most (outcomeWord o) (m ∷ v ∷ []) (omega arith) each in omega (arith, outcome-most o)
-  where
-    each : (i : ℕ) → i < 2 → getD (m ∷ v ∷ []) i 0 < 2 ^ 64
-    each zero l = h
-    each (suc zero) l = k
-    each (suc (suc i)) l = absurd (omega arith)
 
 -- ---- a value of a word
 pub value-small : (w i : ℕ) → valueIn w i < 4

@@ -2,4 +2,3 @@
 pub mod Laying
 pub mod Names
 pub mod Bounds
-pub mod Rules

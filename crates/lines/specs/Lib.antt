@@ -1,3 +1,2 @@
--- The lines that are printed of a word and numbers, and what the routines of this crate answer.
-pub mod Printed
+-- What a line is made of, and what the routines of this crate are handed.
 pub mod Laying

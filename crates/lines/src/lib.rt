@@ -1,6 +1,5 @@
-// One line of text at the front of a lent slice: of names, of numbers, of a word and numbers.
+// A line of items at the front of a lent slice: of names, of numbers.
 ghost use mathlib.Core.Path.{_≡_};
-ghost use mathlib.Core.List.{[], _∷_, _++_};
 ghost use Prim.Native.Nat.{_≤_, _<_};
 ghost use lib.ListN.{length, take};
 ghost use Rattle.sets.specs.Lists.{tabulate};
@@ -8,13 +7,9 @@ ghost use Rattle.lists.specs.Bytes.{Wrote};
 ghost use Rattle.program.specs.Names.{nameAt};
 ghost use Rattle.text.specs.Lines.{namesLine, valuesLine};
 ghost use Rattle.lines.specs.Laying.{separator, item, numberAt, Room, Spans};
-ghost use Rattle.lines.specs.Printed.{outcomeWord, numbered, refusedLine, lastLine};
-use program::Outcome;
-
-// What stands between items, and what ends a line.
-const SPACE: u8 = 32;
-
-const LINE_END: u8 = 10;
+use program::NAME_BYTES;
+use text::NEWLINE;
+use text::SPACE;
 
 // ---- items
 // What stands behind the item before `i`: a space, or the line's end behind the last.
@@ -24,7 +19,7 @@ fn separator_of(i: usize, n: usize) -> u8
     if i < n {
         return SPACE;
     }
-    LINE_END
+    NEWLINE
 }
 
 // The length of the name in place `i`.
@@ -32,8 +27,8 @@ fn name_length(names: &[u8; program::ALL_NAME_BYTES], i: usize) -> usize
     requires { ⌜ i < 12 ⌝ }
     ensures { λ r. ⌜ Spans (nameAt (now (names .entry)) i) 8 r ⌝ }
 {
-    let a = 8 * i;
-    let e = a + 8;
+    let a = NAME_BYTES * i;
+    let e = a + NAME_BYTES;
     let all = &names[..];
     lists::end_of(&all[a..e], 0, 0)
 }
@@ -44,7 +39,7 @@ fn put_name(out: &mut [u8], names: &[u8; program::ALL_NAME_BYTES], i: usize) -> 
     ensures { λ r. ⌜ Wrote (nameAt (now (names .entry)) i) (now (out .entry)) r (now (out .exit)) ⌝ }
 {
     let k = name_length(names, i);
-    let a = 8 * i;
+    let a = NAME_BYTES * i;
     let e = a + k;
     let all = &names[..];
     lists::put_bytes(out, &all[a..e])
@@ -99,73 +94,4 @@ pub fn put_values_line(out: &mut [u8], values: &[u64], n: usize) -> usize
         i += 1;
     }
     at
-}
-
-// ---- a word and numbers behind it
-// A word, and the space behind it.
-fn put_word(out: &mut [u8], word: &[u8]) -> usize
-    requires { ⌜ length (now word ++ 32 ∷ []) ≤ length (now out) ⌝ }
-    ensures { λ r. ⌜ Wrote (now (word .entry) ++ 32 ∷ []) (now (out .entry)) r (now (out .exit)) ⌝ }
-{
-    let k = lists::put_bytes(out, word);
-    out[k] = SPACE;
-    k + 1
-}
-
-// A line of a word and of the first `n` values behind it.
-fn put_worded_line(out: &mut [u8], word: &[u8], values: &[u64], n: usize) -> usize
-    requires { ⌜ Room n (length (now values)) ((now word ++ 32 ∷ []) ++ valuesLine (take n (now values))) (now out) ⌝ }
-    ensures { λ r. ⌜ Wrote ((now (word .entry) ++ 32 ∷ []) ++ valuesLine (take n (now (values .entry)))) (now (out .entry)) r (now (out .exit)) ⌝ }
-{
-    let a = put_word(out, word);
-    let b = put_values_line(&mut out[a..], values, n);
-    a + b
-}
-
-// A line of a word and a number at the front of `out`, which has room for it; its length.
-pub fn put_numbered_line(out: &mut [u8], word: &[u8], number: u64) -> usize
-    requires { ⌜ length (numbered (now word) number) ≤ length (now out) ⌝ }
-    ensures { λ r. ⌜ Wrote (numbered (now (word .entry)) number) (now (out .entry)) r (now (out .exit)) ⌝ }
-{
-    let values = [number];
-    put_worded_line(out, word, &values, 1)
-}
-
-// The line of a refusal at the front of `out`, which has room for it; its length.
-pub fn put_refused_line(out: &mut [u8], number: u64) -> usize
-    requires { ⌜ length (refusedLine number) ≤ length (now out) ⌝ }
-    ensures { λ r. ⌜ Wrote (refusedLine number) (now (out .entry)) r (now (out .exit)) ⌝ }
-{
-    put_numbered_line(out, b"refused", number)
-}
-
-// A line of an outcome and of the first `n` values behind it.
-fn put_outcome(out: &mut [u8], outcome: Outcome, values: &[u64], n: usize) -> usize
-    requires { ⌜ Room n (length (now values)) ((outcomeWord outcome ++ 32 ∷ []) ++ valuesLine (take n (now values))) (now out) ⌝ }
-    ensures { λ r. ⌜ Wrote ((outcomeWord outcome ++ 32 ∷ []) ++ valuesLine (take n (now (values .entry)))) (now (out .entry)) r (now (out .exit)) ⌝ }
-{
-    match outcome {
-        Outcome::Complete => put_worded_line(out, b"complete", values, n),
-        Outcome::Full => put_worded_line(out, b"full", values, n),
-        Outcome::Spent => put_worded_line(out, b"spent", values, n),
-        Outcome::Refused(_) => put_worded_line(out, b"refused", values, n),
-    }
-}
-
-// A line of an outcome and a number at the front of `out`, which has room for it; its length.
-pub fn put_outcome_line(out: &mut [u8], outcome: Outcome, m: u64) -> usize
-    requires { ⌜ length (numbered (outcomeWord outcome) m) ≤ length (now out) ⌝ }
-    ensures { λ r. ⌜ Wrote (numbered (outcomeWord outcome) m) (now (out .entry)) r (now (out .exit)) ⌝ }
-{
-    let values = [m];
-    put_outcome(out, outcome, &values, 1)
-}
-
-// The last line of a search at the front of `out`, which has room for it; its length.
-pub fn put_last_line(out: &mut [u8], outcome: Outcome, m: u64, v: u64) -> usize
-    requires { ⌜ length (lastLine outcome m v) ≤ length (now out) ⌝ }
-    ensures { λ r. ⌜ Wrote (lastLine outcome m v) (now (out .entry)) r (now (out .exit)) ⌝ }
-{
-    let values = [m, v];
-    put_outcome(out, outcome, &values, 2)
 }

@@ -1,21 +1,17 @@
--- How long the lines of models and of a summary are: a names line has up to 108 bytes, a line of values up to 24. Assumes nothing.
+-- How long the lines of models are: a names line has up to 108 bytes, a line of values up to 24. Assumes nothing.
 use mathlib.Core.Path.{_≡_, refl}
-use mathlib.Core.Bool.{Bool, true, false}
 use mathlib.Core.List.{List, [], _∷_, _++_, flatMap}
-use Prim.Native.Nat.{ℕ, _+_, _*_, _≤_, _<_}
+use Prim.Native.Nat.{ℕ, _+_, _*_, _≤_}
 use native.Mathlib.Omega.{arith}
-use lib.ListN.{length, getD, take, length-append, length-take}
+use lib.ListN.{length, take, length-append, length-take}
 use Rattle.sets.specs.Lists.{tabulate}
-use Rattle.lists.specs.Bytes.{oneIf}
 use Rattle.program.specs.declared.Program.{Program}
 use Rattle.program.specs.Names.{nameAt, namesOf}
 use Rattle.program.specs.Values.{valueIn, wordValues}
 use Rattle.text.specs.Lines.{namesLine, valuesLine}
 use Rattle.lines.proofs.Bounds.{names-most, row-most, value-small}
 use Rattle.listings.specs.Listing.{modelLines, listing}
-use Rattle.listings.specs.Summary.{bitAt, bitsLine, fourLines, flagAt, flagsLine}
 
--- ---- the lines of models, and the listing
 model-most : (w n : ℕ) → 1 ≤ n → n ≤ 12 → length (valuesLine (wordValues n w)) ≤ 24
 unfolding wordValues
 model-most w n h l = omega (arith, row-most (valueIn w) n 0 h (λ i k. omega (arith, value-small w i)))
@@ -33,33 +29,3 @@ listing-most ns n ms m h l =
 pub listing-is : (p : Program) (ms : List ℕ) (m : ℕ) → namesLine (tabulate (nameAt (p .«atom_names»)) (p .«atom_count»)) ++ modelLines (p .«atom_count») (take m ms) ≡ listing p (take m ms)
 unfolding listing namesOf
 listing-is p ms m = refl
-
--- ---- the lines of a summary
-module _ (n : ℕ) (h : 1 ≤ n) (l : n ≤ 12) where
-  bits-most : (k : ℕ) (shown : List ℕ) → length (bitsLine k shown n) ≤ 24
-  unfolding bitsLine bitAt
-  bits-most k shown = omega (arith, row-most (bitAt k shown) n 0 h (λ i l. omega arith))
-
-  flags-most : (flags : List Bool) → length (flagsLine flags n) ≤ 24
-  unfolding flagsLine flagAt
-  flags-most flags = omega (arith, row-most (flagAt flags) n 0 h (λ i l. small (getD flags i false)))
-    where
-      small : (b : Bool) → oneIf b < 10
-      small true = omega arith
-      small false = omega arith
-
-  pub summary-most : (ns shown : List ℕ) (flags : List Bool) → length (namesLine (tabulate (nameAt ns) n) ++ (fourLines shown n ++ flagsLine flags n)) ≤ 228
-  summary-most ns shown flags = omega (
-    arith,
-    length-append (namesLine (tabulate (nameAt ns) n)) (fourLines shown n ++ flagsLine flags n),
-    length-append (fourLines shown n) (flagsLine flags n),
-    length-append (bitsLine 1 shown n ++ bitsLine 2 shown n) (bitsLine 4 shown n ++ bitsLine 8 shown n),
-    length-append (bitsLine 1 shown n) (bitsLine 2 shown n),
-    length-append (bitsLine 4 shown n) (bitsLine 8 shown n),
-    names-most ns n h,
-    bits-most 1 shown,
-    bits-most 2 shown,
-    bits-most 4 shown,
-    bits-most 8 shown,
-    flags-most flags,
-  )

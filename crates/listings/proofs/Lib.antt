@@ -1,4 +1,3 @@
--- The laws of the lines of models and of a summary: their pieces, and how long they are.
+-- The laws of the lines of models: their pieces, and how long they are.
 pub mod Models
 pub mod Bounds
-pub mod Rules

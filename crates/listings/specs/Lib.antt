@@ -1,3 +1,2 @@
--- The lines of a list of models, and of a summary.
+-- The lines of a list of models.
 pub mod Listing
-pub mod Summary

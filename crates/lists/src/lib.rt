@@ -1,6 +1,6 @@
-// Slices of bytes: where a byte stands, how often, whether two slices are the same, and bytes put at the front of a slice.
+// Slices of bytes: where a byte stands, how often, whether two slices are the same, and bytes put at the front of a slice; the smaller of two lengths.
 ghost use mathlib.Core.Path.{_≡_};
-ghost use Prim.Native.Nat.{_≤_};
+ghost use Prim.Native.Nat.{_≤_, min};
 ghost use lib.ListN.{length};
 ghost use Rattle.lists.specs.Bytes.{EndsAt, CountOf, Wrote, same, oneIf};
 
@@ -65,4 +65,11 @@ pub fn put_bytes(out: &mut [u8], s: &[u8]) -> usize
         i += 1;
     }
     i
+}
+
+// The smaller of the two: what is asked for, up to a limit.
+pub fn least(a: usize, b: usize) -> usize
+    ensures { λ r. ⌜ r ≡ min a b ⌝ }
+{
+    if a < b { a } else { b }
 }

@@ -1,3 +1,2 @@
--- The laws of what each word says of a table.
+-- The laws of what several words print.
 pub mod Texts
-pub mod Rules

@@ -1,3 +1,3 @@
--- What each word is handed, and what it says of a table.
+-- What each word is handed, and what several words share.
 pub mod Ready
 pub mod Texts

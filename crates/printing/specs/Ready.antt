@@ -19,6 +19,6 @@ pub record Ready (p : Program) (xs : List ℕ) : Type 0 where
   pub room : mostBytes ≤ length xs
 
 -- the same, and a list of no more places than one that is lent
-pub record Lent (p : Program) (l xs : List ℕ) : Type 0 where
+pub record ReadyToList (p : Program) (l xs : List ℕ) : Type 0 where
   pub ready : Ready p xs
   pub short : length l ≤ 4096

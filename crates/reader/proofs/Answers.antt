@@ -19,9 +19,9 @@ use Rattle.text.specs.Reading.{programOf, refusedWith, readOf}
 use Rattle.text.proofs.Tests.{names-are, names-count}
 use Rattle.text.proofs.Fits.{early, late, opened}
 use Rattle.text.proofs.RoundTrip.{taken, refused}
-use Rattle.rows.specs.declared.ClauseLines.{ClauseLines}
-use Rattle.rows.specs.Rows.{clausesOf}
-use Rattle.rows.proofs.Reading.{broken-is, clauses-said}
+use Rattle.clauselines.specs.declared.ClauseLines.{ClauseLines}
+use Rattle.clauselines.specs.Gathered.{clausesOf}
+use Rattle.clauselines.proofs.Reading.{broken-is, clauses-said}
 
 pub none : (b : List ℕ) (k : ℕ) → k ≡ openingRefusal b → k ≡ 0 → openingRefusal b ≡ 0
 none b k e z = sym e ∙ z

@@ -1,4 +1,3 @@
 -- The laws of the reader's loops and of its answers.
 pub mod Names
 pub mod Answers
-pub mod Rules

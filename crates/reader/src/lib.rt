@@ -10,10 +10,10 @@ ghost use Rattle.text.specs.Lines.{names};
 ghost use Rattle.text.specs.Tables.{placed};
 ghost use Rattle.text.specs.Refusals.{openingRefusal, clauseBroken};
 ghost use Rattle.text.specs.Reading.{programOf, refusedWith, readOf};
-ghost use Rattle.rows.specs.Rows.{clausesOf};
+ghost use Rattle.clauselines.specs.Gathered.{clausesOf};
+use clauselines::ClauseLines;
 use program::Program;
 use program::Verdict;
-use rows::ClauseLines;
 use text::NEWLINE;
 use text::Read;
 use text::SPACE;
@@ -101,7 +101,7 @@ pub fn read_program(text: &[u8]) -> Read
         return refused(opening);
     }
     let n = atom_count(text);
-    let lines = rows::clause_lines(text, n);
+    let lines = clauselines::clause_lines(text, n);
     if lines.broken {
         return refused(program::CLAUSE_BROKEN);
     }

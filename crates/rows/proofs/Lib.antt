@@ -1,6 +1,3 @@
--- The laws of the clause lines; Reading has those that the reader cites.
+-- The laws of a clause line.
 pub mod Rows
 pub mod Weighing
-pub mod Gathering
-pub mod Reading
-pub mod Rules

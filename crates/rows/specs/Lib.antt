@@ -1,2 +1,2 @@
--- What is said of the clause lines of a text; the laws stand in proofs/.
+-- What is said of a clause line; the laws stand in proofs/.
 pub mod Rows

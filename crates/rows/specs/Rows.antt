@@ -1,17 +1,15 @@
--- What is read from a clause line, and from all clause lines of a text. Assumes nothing.
-use mathlib.Core.Bool.{not, _&&_}
-use mathlib.Core.List.{List, [], _∷_, map}
+-- What is read from a clause line. Assumes nothing.
+use mathlib.Core.Bool.{_&&_}
+use mathlib.Core.List.{List, [], _∷_}
 use Prim.Native.Nat.{ℕ, zero, suc}
 use lib.Dec.{eqb}
 use lib.ListN.{length, getD, take, drop}
-use Rattle.sets.specs.Lists.{every, anyOf}
-use Rattle.lists.specs.Bytes.{padded}
+use Rattle.sets.specs.Lists.{every}
 use Rattle.program.specs.Values.{headOf, bodyOf, nafOf}
-use Rattle.text.specs.Lines.{names, clauseLines, row}
+use Rattle.text.specs.Lines.{row}
 use Rattle.text.specs.Refusals.{isValue}
 use Rattle.rows.specs.declared.Row.{Row}
 use Rattle.rows.specs.declared.ClauseLine.{ClauseLine}
-use Rattle.rows.specs.declared.ClauseLines.{ClauseLines}
 
 -- the first n numbers of a row, zero where it has fewer
 unfoldable pub first : ℕ → List ℕ → List ℕ
@@ -35,18 +33,3 @@ weighed n r = record {
 -- what a line says for n names
 unfoldable pub lineRead : ℕ → List ℕ → ClauseLine
 lineRead n l = weighed n (rowOf l)
-
--- what some lines say: "A clause line breaks the form", "A clause line has only zeros", and the columns of a table, "unused places in it hold zero"
-unfoldable pub gathered : List ClauseLine → ClauseLines
-gathered ls = record {
-  broken = anyOf (λ l. not (l .holds)) ls;
-  zeros = anyOf (λ l. l .zero) ls;
-  count = length ls;
-  heads = padded 64 (map (λ l. l .head) ls);
-  bodies = padded 64 (map (λ l. l .body) ls);
-  nafs = padded 64 (map (λ l. l .naf) ls);
-}
-
--- what the clause lines of a text say
-unfoldable pub clausesOf : List ℕ → ClauseLines
-clausesOf b = gathered (map (lineRead (length (names b))) (clauseLines b))

@@ -1,48 +1,42 @@
-// The clause lines of a text: each is read once, as a row of numbers, and tests and table are taken from the row.
+// A clause line of a text: read once, as a row of numbers, and what the row says for so many names.
 ghost use mathlib.Core.Path.{_≡_};
-ghost use mathlib.Core.List.{map};
 ghost use Prim.Native.Nat.{_≤_};
-ghost use lib.ListN.{length, set, drop};
-ghost use Rattle.lists.specs.Bytes.{ended};
-ghost use Rattle.text.specs.Lines.{names, valueOf};
-ghost use Rattle.text.specs.Refusals.{openingRefusal};
-ghost use Rattle.rows.specs.Rows.{rowOf, weighed, lineRead, gathered, clausesOf};
+ghost use lib.ListN.{set};
+ghost use Rattle.text.specs.Lines.{valueOf};
+ghost use Rattle.rows.specs.Rows.{rowOf, weighed};
 use decimal::Parsed;
-use text::NEWLINE;
 use text::SPACE;
 
-// The numbers on a line: how many items stand on it, and the number that each of the first fourteen is.
+// The numbers of a row: more than a line has that gives a value to each name.
+pub const ROW_PLACES: usize = 14;
+
+// The largest number that an item is read as, and what stands for an item that is no number.
+const MOST_NUMBER: u64 = 65535;
+
+const NO_NUMBER: u32 = 65536;
+
+// The numbers on a line: how many items stand on it, and the number that each of the first `ROW_PLACES` is.
 pub struct Row {
     pub count: usize,
-    pub values: [u32; 14],
+    pub values: [u32; ROW_PLACES],
 }
 
 // What a clause line says: whether it has a value for each name, whether those are all zero, and the words of its clause.
-struct ClauseLine {
-    holds: bool,
-    zero: bool,
-    head: u32,
-    body: u32,
-    naf: u32,
+pub struct ClauseLine {
+    pub holds: bool,
+    pub zero: bool,
+    pub head: u32,
+    pub body: u32,
+    pub naf: u32,
 }
 
-// What all clause lines say: whether some line breaks the form, whether some line has only zeros, and the columns of words.
-pub struct ClauseLines {
-    pub broken: bool,
-    pub zeros: bool,
-    pub count: usize,
-    pub heads: [u32; program::MOST_CLAUSES],
-    pub bodies: [u32; program::MOST_CLAUSES],
-    pub nafs: [u32; program::MOST_CLAUSES],
-}
-
-// The number up to 65535 that `s` is the decimal text of, 65536 for none.
+// The number up to `MOST_NUMBER` that `s` is the decimal text of, `NO_NUMBER` for none.
 fn value_of(s: &[u8]) -> u32
     ensures { λ r. ⌜ r ≡ valueOf (now (s .entry)) ⌝ }
 {
-    match decimal::read_number(s, 65535) {
+    match decimal::read_number(s, MOST_NUMBER) {
         Parsed::Number(v) => v as u32,
-        Parsed::Nothing => 65536,
+        Parsed::Nothing => NO_NUMBER,
     }
 }
 
@@ -59,7 +53,7 @@ fn keep(values: &mut [u32], i: usize, v: u32)
 pub fn row_of(line: &[u8]) -> Row
     ensures { λ r. ⌜ r ≡ rowOf (now (line .entry)) ⌝ }
 {
-    let mut values = [0u32; 14];
+    let mut values = [0u32; ROW_PLACES];
     let mut count: usize = 0;
     let mut at: usize = 0;
     while at <= line.len() {
@@ -76,7 +70,7 @@ pub fn row_of(line: &[u8]) -> Row
 }
 
 // What a row says for `n` names: its tests and its three words in one pass, the last name first.
-fn weigh(row: Row, n: usize) -> ClauseLine
+pub fn weigh(row: Row, n: usize) -> ClauseLine
     requires { ⌜ n ≤ 12 ⌝ }
     ensures { λ r. ⌜ r ≡ weighed n row ⌝ }
 {
@@ -103,47 +97,4 @@ fn weigh(row: Row, n: usize) -> ClauseLine
         body: body,
         naf: naf,
     }
-}
-
-// What the lines from `from` on say for `n` names.
-fn gather(text: &[u8], from: usize, n: usize) -> ClauseLines
-    requires { ⌜ (n ≤ 12) × (length (ended 10 (drop from (now text))) ≤ 64) ⌝ }
-    ensures { λ r. ⌜ r ≡ gathered (map (lineRead n) (ended 10 (drop from (now (text .entry))))) ⌝ }
-{
-    let mut broken = false;
-    let mut zeros = false;
-    let mut count: usize = 0;
-    let mut heads = [0u32; program::MOST_CLAUSES];
-    let mut bodies = [0u32; program::MOST_CLAUSES];
-    let mut nafs = [0u32; program::MOST_CLAUSES];
-    let mut at = from;
-    let mut e = lists::end_of(text, at, NEWLINE);
-    while e < text.len() {
-        let line = weigh(row_of(&text[at..e]), n);
-        broken = broken | !line.holds;
-        zeros = zeros | line.zero;
-        heads[count] = line.head;
-        bodies[count] = line.body;
-        nafs[count] = line.naf;
-        count += 1;
-        at = e + 1;
-        e = lists::end_of(text, at, NEWLINE);
-    }
-    ClauseLines {
-        broken: broken,
-        zeros: zeros,
-        count: count,
-        heads: heads,
-        bodies: bodies,
-        nafs: nafs,
-    }
-}
-
-// What the clause lines of a text say, whose bytes and names line are in order; `n` is the number of its names.
-pub fn clause_lines(text: &[u8], n: usize) -> ClauseLines
-    requires { ⌜ (openingRefusal (now text) ≡ 0) × (n ≡ length (names (now text))) ⌝ }
-    ensures { λ r. ⌜ r ≡ clausesOf (now (text .entry)) ⌝ }
-{
-    let e = lists::end_of(text, 0, NEWLINE);
-    gather(text, e + 1, n)
 }

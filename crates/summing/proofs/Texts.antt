@@ -16,14 +16,14 @@ use Rattle.text.specs.Render.{render}
 use Rattle.text.specs.Writing as writing
 use Rattle.text.specs.declared.Written.{Written}
 use Rattle.text.specs.declared.Written.the-variants as written
-use Rattle.tree.specs.declared.SearchAnswer.{SearchAnswer}
-use Rattle.tree.specs.Answer.{listed, Searches}
+use Rattle.lines.specs.Laying.{Room}
+use Rattle.wording.specs.Printed.{refusedLine}
+use Rattle.summarylines.specs.Summary.{fourLines, flagsLine}
+use Rattle.summarylines.proofs.Bounds.{summary-most}
 use Rattle.summary.specs.declared.Summary.{Summary}
 use Rattle.summary.specs.Summary.{summaryOf}
-use Rattle.lines.specs.Laying.{Room}
-use Rattle.lines.specs.Printed.{refusedLine}
-use Rattle.listings.specs.Summary.{fourLines, flagsLine}
-use Rattle.listings.proofs.Bounds.{summary-most}
+use Rattle.tree.specs.declared.SearchAnswer.{SearchAnswer}
+use Rattle.tree.specs.Answer.{listed, Searches}
 use Rattle.printing.specs.Ready.{Ready}
 use Rattle.printing.specs.Texts.{unlessRefused, allowance, lent}
 use Rattle.printing.proofs.Texts.{some-names, few-names}

@@ -4,10 +4,10 @@ use Prim.Native.Nat.{ℕ}
 use Rattle.program.specs.declared.Program.{Program}
 use Rattle.program.specs.Names.{namesOf}
 use Rattle.text.specs.Lines.{namesLine}
-use Rattle.tree.specs.Answer as searched
+use Rattle.summarylines.specs.Summary.{fourLines, flagsLine}
 use Rattle.summary.specs.declared.Summary.{Summary}
 use Rattle.summary.specs.Summary.{summaryOf}
-use Rattle.listings.specs.Summary.{fourLines, flagsLine}
+use Rattle.tree.specs.Answer as searched
 use Rattle.printing.specs.Texts.{unlessRefused, allowance, lent}
 
 -- ---- summary: "the names line, four lines of 0 and 1 (which names take value 0, 1, 2, 3 in some model), a line of 0 and 1 (settled)"

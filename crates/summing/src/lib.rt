@@ -20,7 +20,7 @@ fn put_lines(p: Program, s: Summary, out: &mut [u8]) -> usize
     let names = p.atom_names;
     let shown = s.occurring;
     let flags = s.settled;
-    listings::put_summary(out, &names, n, &shown, &flags)
+    summarylines::put_summary(out, &names, n, &shown, &flags)
 }
 
 // The summary of the words.

@@ -1,3 +1,2 @@
 -- The laws of the writer.
 pub mod Texts
-pub mod Rules

@@ -9,5 +9,5 @@ put-command-spec =
     tie.close
     (tie.spec
     (λ c. search needs) (λ c. search needs) (λ c. search needs) (λ c. search needs) (λ c. search needs) (λ c. search needs) (λ c. search needs) (λ c. search needs) (λ c. search needs)
-    (λ c. search needs) (λ c. search needs) (λ c. search (is-check, needs)) (λ c. search needs) (λ c. search (is-search, needs)) (λ c. search needs) (λ c. search (is-fixpoint, needs))
-    (λ c. search needs) (λ c. search (is-summary, needs)) (λ c. search needs) (λ c. search (is-write, needs)))
+    (λ c. search needs) (λ c. search needs) (λ c. search is-check) (λ c. search needs) (λ c. search is-search) (λ c. search needs) (λ c. search is-fixpoint)
+    (λ c. search needs) (λ c. search is-summary) (λ c. search needs) (λ c. search is-write))

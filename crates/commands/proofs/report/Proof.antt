@@ -5,4 +5,4 @@ use Rattle.commands.proofs.report.Statement.{statement}
 use Rattle.commands.proofs.report.Tie as tie
 
 pub report-spec : {M : Type 1} → statement M
-report-spec = tie.close (tie.spec (λ c. search needs) (λ c. search needs) (λ c. search needs) (λ c. search needs) (λ c. search (report-prints, needs)))
+report-spec = tie.close (tie.spec (λ c. search needs) (λ c. search needs) (λ c. search needs) (λ c. search needs) (λ c. search report-prints))

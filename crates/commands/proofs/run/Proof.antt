@@ -8,5 +8,5 @@ pub run-spec : {M : Type 1} → statement M
 run-spec =
     tie.close
     (tie.spec
-    (λ c. search (no-room, needs)) (λ c. search needs) (λ c. search needs) (λ c. search (read-ready, needs)) (λ c. search needs) (λ c. search needs) (λ c. search needs)
-    (λ c. search (run-read, needs)) (λ c. search needs) (λ c. search (run-refused, needs)))
+    (λ c. search no-room) (λ c. search needs) (λ c. search needs) (λ c. search read-ready) (λ c. search needs) (λ c. search needs) (λ c. search needs)
+    (λ c. search run-read) (λ c. search needs) (λ c. search run-refused))

@@ -1,6 +1,7 @@
 -- `fixing::put_fixpoint` meets its contract: the lent slices are zeros, as many as are asked for, up to the limits. Assumes nothing.
 use borrow.Author.Needs.{needs}
-use Rattle.fixing.proofs.Rules.{fixes}
+use Rattle.printing.proofs.Texts.{cut-long, cut-ready}
+use Rattle.fixing.proofs.Texts.{fixpoint-cut}
 use Rattle.fixing.proofs.put_fixpoint.Statement.{statement}
 use Rattle.fixing.proofs.put_fixpoint.Tie as tie
 
@@ -8,5 +9,5 @@ pub put-fixpoint-spec : {M : Type 1} → statement M
 put-fixpoint-spec =
     tie.close
     (tie.spec
-    (λ c. search needs) (λ c. search needs) (λ c. search needs) (λ c. search fixes) (λ c. search needs) (λ c. search fixes) (λ c. search needs) (λ c. search fixes) (λ c. search fixes)
-    (λ c. search needs) (λ c. search fixes))
+    (λ c. search needs) (λ c. search needs) (λ c. search needs) (λ c. search (cut-long, needs)) (λ c. search needs) (λ c. search (cut-long, needs)) (λ c. search needs)
+    (λ c. search (cut-long, needs)) (λ c. search (cut-ready, needs)) (λ c. search needs) (λ c. search fixpoint-cut))

@@ -1,9 +1,10 @@
 -- `form::has_foreign` keeps `Scanned`: no byte below `i` is foreign. Assumes nothing.
 use Prim.Native.Nat.{_-_}
 use lib.ListN.{length}
-use Rattle.lists.proofs.Loops.{Scanned}
+use borrow.Author.Needs.{needs}
+use Rattle.sets.proofs.Tests.{via}
+use Rattle.lists.proofs.Loops.{Scanned, scan-start, scan-hit, scan-miss, scan-done}
 use Rattle.text.specs.Refusals.{isForeign, hasForeign}
-use Rattle.form.proofs.Rules.{rules}
 use Rattle.form.proofs.has_foreign.Statement.{statement}
 use Rattle.form.proofs.has_foreign.Tie as tie
 
@@ -15,13 +16,14 @@ abbrev μ-loop : tie.MeasureT-loop
 
 returns : tie.Need-returns Inv-loop μ-loop
 unfolding hasForeign
-returns c = search rules
+returns c = search (scan-hit, via)
 
 returns-2 : tie.Need-returns-2 Inv-loop μ-loop
 unfolding hasForeign
-returns-2 c = search rules
+returns-2 c = search scan-done
 
 pub has-foreign-spec : {M : Type 1} → statement M
 has-foreign-spec =
-    tie.close (tie.spec Inv-loop μ-loop (λ c. search rules) (λ c. search rules) (λ c. search rules) returns (λ c. search rules) (λ c. search rules)
-    (λ c. search rules) returns-2)
+    tie.close
+    (tie.spec
+    Inv-loop μ-loop (λ c. search scan-start) (λ c. search needs) (λ c. search needs) returns (λ c. search needs) (λ c. search needs) (λ c. search (scan-miss, via)) returns-2)

@@ -1,7 +1,8 @@
 -- `form::too_many_lines` counts bytes 10, of which each line has one. Assumes nothing.
-use Rattle.form.proofs.Rules.{rules}
+use borrow.Author.Needs.{needs}
+use Rattle.text.proofs.Tests.{many-lines-is}
 use Rattle.form.proofs.too_many_lines.Statement.{statement}
 use Rattle.form.proofs.too_many_lines.Tie as tie
 
 pub too-many-lines-spec : {M : Type 1} → statement M
-too-many-lines-spec = tie.close (tie.spec (λ c. search rules) (λ c. search rules))
+too-many-lines-spec = tie.close (tie.spec (λ c. search needs) (λ c. search many-lines-is))

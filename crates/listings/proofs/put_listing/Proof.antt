@@ -1,7 +1,7 @@
 -- `listings::put_listing`: the names line, and the lines of the models behind it, by the laws of one text behind the other. Assumes nothing.
 use native.Mathlib.Omega.{arith}
-use Rattle.lines.proofs.Laying.{both-fits}
-use Rattle.lines.proofs.Rules.{behind}
+use borrow.Author.Needs.{needs}
+use Rattle.lines.proofs.Laying.{first-room, second-from, second-room, both-fits, both-wrote}
 use Rattle.listings.proofs.put_listing.Statement.{statement}
 use Rattle.listings.proofs.put_listing.Tie as tie
 
@@ -13,4 +13,8 @@ add-result c =
     both-fits _ _ _ _ _ _ _ (at-first .put-names-line .ensures) (at-start .pre .1) _ _ (at-second .put-model-lines .ensures) (omega arith)
 
 pub put-listing-spec : {M : Type 1} → statement M
-put-listing-spec = tie.close (tie.spec (λ c. search behind) (λ c. search behind) (λ c. search behind) (λ c. search behind) (λ c. search behind) add-result (λ c. search behind) (λ c. search behind))
+put-listing-spec =
+    tie.close
+    (tie.spec
+    (λ c. search first-room) (λ c. search second-from) (λ c. search second-from) (λ c. search needs) (λ c. search (second-room, needs)) add-result (λ c. search needs)
+    (λ c. search both-wrote))

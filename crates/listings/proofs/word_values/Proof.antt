@@ -1,8 +1,8 @@
 -- `listings::word_values`: the loop keeps `Filled`: the first `i` values stand in the array. Assumes nothing.
 use Prim.Native.Nat.{_-_}
+use borrow.Author.Needs.{needs}
+use Rattle.lists.proofs.Filling.{Filled, fill-start, fill-more, fill-done}
 use Rattle.program.specs.Values.{valueIn}
-use Rattle.lists.proofs.Filling.{Filled}
-use Rattle.lines.proofs.Rules.{filling}
 use Rattle.listings.proofs.word_values.Statement.{statement}
 use Rattle.listings.proofs.word_values.Tie as tie
 
@@ -13,6 +13,8 @@ abbrev μ-loop : tie.MeasureT-loop
 μ-loop w out₀ i₀ out i = 12 - i
 
 pub word-values-spec : {M : Type 1} → statement M
-word-values-spec = tie.close (tie.spec
-    Inv-loop μ-loop (λ c. search filling) (λ c. search filling) (λ c. search filling) (λ c. search filling) (λ c. search filling)
-    (λ c. search filling) (λ c. search filling) (λ c. search filling) (λ c. search filling))
+word-values-spec =
+    tie.close
+    (tie.spec
+    Inv-loop μ-loop (λ c. search fill-start) (λ c. search needs) (λ c. search needs) (λ c. search needs) (λ c. search needs) (λ c. search needs) (λ c. search needs)
+    (λ c. search fill-more) (λ c. search fill-done))

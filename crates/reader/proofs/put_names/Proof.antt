@@ -1,8 +1,8 @@
 -- `reader::put_names` keeps `Naming`: the places of the names below `at` stand in front, zeros behind them, and with the places of those left they are all. Assumes nothing.
 use Prim.Native.Nat.{_+_, _-_}
 use lib.ListN.{length}
-use Rattle.reader.proofs.Names.{Naming}
-use Rattle.reader.proofs.Rules.{rules}
+use borrow.Author.Needs.{needs}
+use Rattle.reader.proofs.Names.{Naming, naming-start, naming-from, naming-room, naming-more, naming-done}
 use Rattle.reader.proofs.put_names.Statement.{statement}
 use Rattle.reader.proofs.put_names.Tie as tie
 
@@ -14,6 +14,8 @@ abbrev μ-loop : tie.MeasureT-loop
 
 pub put-names-spec : {M : Type 1} → statement M
 put-names-spec =
-    tie.close (tie.spec Inv-loop μ-loop (λ c. search rules) (λ c. search rules) (λ c. search rules) (λ c. search rules) (λ c. search rules)
-    (λ c. search rules) (λ c. search rules) (λ c. search rules) (λ c. search rules) (λ c. search rules) (λ c. search rules) (λ c. search rules)
-    (λ c. search rules) (λ c. search rules) (λ c. search rules))
+    tie.close
+    (tie.spec
+    Inv-loop μ-loop (λ c. search naming-start) (λ c. search needs) (λ c. search naming-from) (λ c. search naming-from) (λ c. search needs) (λ c. search needs)
+    (λ c. search needs) (λ c. search needs) (λ c. search naming-room) (λ c. search needs) (λ c. search needs) (λ c. search needs) (λ c. search naming-more) (λ c. search needs)
+    (λ c. search naming-done))

@@ -1,9 +1,12 @@
 -- `reader::read_program` has a law for each way out: `read-early` for 1 to 6, `read-seven`, `read-eight`, and `read-table` where no refusal applies. Assumes nothing.
-use Rattle.reader.proofs.Rules.{rules}
+use borrow.Author.Needs.{needs}
+use Rattle.reader.proofs.Answers.{none, read-early, breaks-or-not, read-seven, read-eight, read-table}
 use Rattle.reader.proofs.read_program.Statement.{statement}
 use Rattle.reader.proofs.read_program.Tie as tie
 
 pub read-program-spec : {M : Type 1} → statement M
 read-program-spec =
-    tie.close (tie.spec (λ c. search rules) (λ c. search rules) (λ c. search rules) (λ c. search rules) (λ c. search rules) (λ c. search rules)
-    (λ c. search rules) (λ c. search rules) (λ c. search rules) (λ c. search rules) (λ c. search rules))
+    tie.close
+    (tie.spec
+    (λ c. search needs) (λ c. search needs) (λ c. search read-early) (λ c. search none) (λ c. search (none, needs)) (λ c. search needs) (λ c. search (read-seven, none))
+    (λ c. search needs) (λ c. search (read-eight, none)) (λ c. search (none, breaks-or-not, needs)) (λ c. search (read-table, none)))

@@ -1,8 +1,8 @@
 -- `rows::row_of` keeps `Rowed`: the numbers of the items below `at` stand in the row, and with those of the items that are left they are the line's. Assumes nothing.
 use Prim.Native.Nat.{_+_, _-_}
 use lib.ListN.{length}
-use Rattle.rows.proofs.Rows.{Rowed}
-use Rattle.rows.proofs.Rules.{rules}
+use borrow.Author.Needs.{needs}
+use Rattle.rows.proofs.Rows.{Rowed, row-start, row-more, row-done}
 use Rattle.rows.proofs.row_of.Statement.{statement}
 use Rattle.rows.proofs.row_of.Tie as tie
 
@@ -14,6 +14,7 @@ abbrev μ-loop : tie.MeasureT-loop
 
 pub row-of-spec : {M : Type 1} → statement M
 row-of-spec =
-    tie.close (tie.spec Inv-loop μ-loop (λ c. search rules) (λ c. search rules) (λ c. search rules) (λ c. search rules) (λ c. search rules)
-    (λ c. search rules) (λ c. search rules) (λ c. search rules) (λ c. search rules) (λ c. search rules) (λ c. search rules) (λ c. search rules)
-    (λ c. search rules))
+    tie.close
+    (tie.spec
+    Inv-loop μ-loop (λ c. search row-start) (λ c. search needs) (λ c. search needs) (λ c. search needs) (λ c. search needs) (λ c. search needs) (λ c. search needs)
+    (λ c. search needs) (λ c. search needs) (λ c. search needs) (λ c. search needs) (λ c. search row-more) (λ c. search row-done))

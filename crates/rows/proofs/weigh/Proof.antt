@@ -1,6 +1,6 @@
 -- `rows::weigh` keeps `Weighing`: the tests and words so far are those of the values from `i` on, in front of which the next one comes; three words below 2^24 leave room for it. Assumes nothing.
-use Rattle.rows.proofs.Weighing.{Weighing}
-use Rattle.rows.proofs.Rules.{rules}
+use borrow.Author.Needs.{needs}
+use Rattle.rows.proofs.Weighing.{Weighing, weigh-start, weigh-more, weigh-done}
 use Rattle.rows.proofs.weigh.Statement.{statement}
 use Rattle.rows.proofs.weigh.Tie as tie
 
@@ -12,6 +12,7 @@ abbrev μ-loop : tie.MeasureT-loop
 
 pub weigh-spec : {M : Type 1} → statement M
 weigh-spec =
-    tie.close (tie.spec Inv-loop μ-loop (λ c. search rules) (λ c. search rules) (λ c. search rules) (λ c. search rules) (λ c. search rules)
-    (λ c. search rules) (λ c. search rules) (λ c. search rules) (λ c. search rules) (λ c. search rules) (λ c. search rules) (λ c. search rules)
-    (λ c. search rules))
+    tie.close
+    (tie.spec
+    Inv-loop μ-loop (λ c. search weigh-start) (λ c. search needs) (λ c. search needs) (λ c. search needs) (λ c. search needs) (λ c. search needs) (λ c. search needs)
+    (λ c. search needs) (λ c. search needs) (λ c. search needs) (λ c. search needs) (λ c. search (weigh-more, needs)) (λ c. search weigh-done))

@@ -1,8 +1,11 @@
 -- `summing::put_written` meets its contract: with room for its text the writer never refuses a table that was read. Assumes nothing.
 use borrow.Author.Needs.{needs}
-use Rattle.summing.proofs.Rules.{writes}
+use Rattle.summing.proofs.Texts.{text-wrote, never-refused}
 use Rattle.summing.proofs.put_written.Statement.{statement}
 use Rattle.summing.proofs.put_written.Tie as tie
 
 pub put-written-spec : {M : Type 1} → statement M
-put-written-spec = tie.close (tie.spec (λ c. search needs) (λ c. search needs) (λ c. search needs) (λ c. search needs) (λ c. search writes) (λ c. search needs) (λ c. search writes))
+put-written-spec =
+    tie.close
+    (tie.spec
+    (λ c. search needs) (λ c. search needs) (λ c. search needs) (λ c. search needs) (λ c. search text-wrote) (λ c. search needs) (λ c. search never-refused))

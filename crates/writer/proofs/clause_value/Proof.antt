@@ -1,6 +1,6 @@
 -- `writer::clause_value`: the sum of the three parts' values is the clause's. Assumes nothing.
-use Rattle.program.specs.Values.{clauseValue}
 use borrow.Author.Needs.{needs}
+use Rattle.program.specs.Values.{clauseValue}
 use Rattle.writer.proofs.clause_value.Statement.{statement}
 use Rattle.writer.proofs.clause_value.Tie as tie
 

@@ -1,11 +1,11 @@
 -- `writer::put_clause_lines`: the loop keeps `Laid`: the lines of the first `k` clauses stand there. Assumes nothing.
 use Prim.Native.Nat.{_-_}
 use mathlib.Core.List.{flatMap}
+use borrow.Author.Needs.{needs}
 use Rattle.text.specs.Lines.{valuesLine}
 use Rattle.text.specs.Render.{valuesOf}
-use Rattle.lines.proofs.Laying.{Laid}
-use Rattle.writer.proofs.Texts.{clauseLine}
-use Rattle.writer.proofs.Rules.{placing}
+use Rattle.lines.proofs.Laying.{Laid, laid-start, laid-from, laid-room, laid-fits, laid-more, laid-done}
+use Rattle.writer.proofs.Texts.{clauseLine, clauses-laid}
 use Rattle.writer.proofs.put_clause_lines.Statement.{statement}
 use Rattle.writer.proofs.put_clause_lines.Tie as tie
 
@@ -16,7 +16,9 @@ abbrev μ-loop : tie.MeasureT-loop
 μ-loop out₀ p at₀ k₀ out at k = p .«clause_count» - k
 
 pub put-clause-lines-spec : {M : Type 1} → statement M
-put-clause-lines-spec = tie.close (tie.spec
-    Inv-loop μ-loop (λ c. search placing) (λ c. search placing) (λ c. search placing) (λ c. search placing) (λ c. search placing)
-    (λ c. search placing) (λ c. search placing) (λ c. search placing) (λ c. search placing) (λ c. search placing) (λ c. search placing)
-    (λ c. search placing) (λ c. search placing) (λ c. search placing) (λ c. search placing) (λ c. search placing) (λ c. search placing))
+put-clause-lines-spec =
+    tie.close
+    (tie.spec
+    Inv-loop μ-loop (λ c. search (clauses-laid, laid-start, needs)) (λ c. search laid-from) (λ c. search laid-from) (λ c. search needs) (λ c. search needs) (λ c. search needs)
+    (λ c. search needs) (λ c. search needs) (λ c. search needs) (λ c. search needs) (λ c. search (laid-room, needs)) (λ c. search laid-fits) (λ c. search needs)
+    (λ c. search needs) (λ c. search laid-more) (λ c. search needs) (λ c. search laid-done))

@@ -1,9 +1,9 @@
 -- `writer::put_text`: the names line, and the lines of the clauses behind it, by the laws of one text behind the other. Assumes nothing.
 use native.Mathlib.Omega.{arith}
+use borrow.Author.Needs.{needs}
 use Rattle.program.specs.Names.{namesOf}
 use Rattle.text.specs.Render.{bookText, render}
-use Rattle.lines.proofs.Laying.{both-fits}
-use Rattle.lines.proofs.Rules.{behind}
+use Rattle.lines.proofs.Laying.{first-room, second-from, second-room, both-fits, both-wrote}
 use Rattle.writer.proofs.put_text.Statement.{statement}
 use Rattle.writer.proofs.put_text.Tie as tie
 
@@ -17,4 +17,8 @@ add-result c =
 
 pub put-text-spec : {M : Type 1} → statement M
 unfolding render bookText namesOf
-put-text-spec = tie.close (tie.spec (λ c. search behind) (λ c. search behind) (λ c. search behind) (λ c. search behind) (λ c. search behind) add-result (λ c. search behind) (λ c. search behind))
+put-text-spec =
+    tie.close
+    (tie.spec
+    (λ c. search first-room) (λ c. search second-from) (λ c. search second-from) (λ c. search needs) (λ c. search (second-room, needs)) add-result (λ c. search needs)
+    (λ c. search both-wrote))

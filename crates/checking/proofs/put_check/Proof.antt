@@ -1,0 +1,13 @@
+-- `checking::put_check` meets its contract: one law for each answer of the check. Assumes nothing.
+use borrow.Author.Needs.{needs}
+use Rattle.checking.proofs.Texts.{check-refused, check-violated, check-smaller, check-stable}
+use Rattle.checking.proofs.put_check.Statement.{statement}
+use Rattle.checking.proofs.put_check.Tie as tie
+
+pub put-check-spec : {M : Type 1} → statement M
+put-check-spec =
+    tie.close
+    (tie.spec
+    (λ c. search needs) (λ c. search needs) (λ c. search needs) (λ c. search needs) (λ c. search needs) (λ c. search needs) (λ c. search needs) (λ c. search needs) (λ c. search needs)
+    (λ c. search needs) (λ c. search needs) (λ c. search needs) (λ c. search needs) (λ c. search check-refused) (λ c. search needs) (λ c. search check-violated) (λ c. search needs)
+    (λ c. search check-smaller) (λ c. search needs) (λ c. search check-stable))

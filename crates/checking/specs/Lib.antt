@@ -1,0 +1,2 @@
+-- What `check` says of a table.
+pub mod Texts

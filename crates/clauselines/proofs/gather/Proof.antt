@@ -1,0 +1,23 @@
+-- `clauselines::gather` keeps `Gathering`: what was found so far, together with what the lines from `at` on say, is what all lines say; the columns are filled up to `count`. Assumes nothing.
+use Prim.Native.Nat.{_-_}
+use lib.ListN.{length}
+use borrow.Author.Needs.{needs}
+use Rattle.lists.specs.Bytes.{EndsAt}
+use Rattle.clauselines.proofs.Gathering.{Gathering, gather-start, gather-room, gather-more, gather-done}
+use Rattle.clauselines.proofs.gather.Statement.{statement}
+use Rattle.clauselines.proofs.gather.Tie as tie
+
+abbrev Inv-loop : tie.InvT-loop
+Inv-loop text from n broken₀ zeros₀ count₀ heads₀ bodies₀ nafs₀ at₀ e₀ broken zeros count heads bodies nafs at e =
+    Gathering text from n at count broken zeros heads bodies nafs × EndsAt text 10 at e
+
+abbrev μ-loop : tie.MeasureT-loop
+μ-loop text from n broken₀ zeros₀ count₀ heads₀ bodies₀ nafs₀ at₀ e₀ broken zeros count heads bodies nafs at e = length text - at
+
+pub gather-spec : {M : Type 1} → statement M
+gather-spec =
+    tie.close
+    (tie.spec
+    Inv-loop μ-loop (λ c. search needs) (λ c. search gather-start) (λ c. search needs) (λ c. search needs) (λ c. search needs) (λ c. search needs) (λ c. search needs)
+    (λ c. search needs) (λ c. search gather-room) (λ c. search needs) (λ c. search gather-room) (λ c. search needs) (λ c. search gather-room) (λ c. search needs)
+    (λ c. search needs) (λ c. search needs) (λ c. search needs) (λ c. search gather-more) (λ c. search gather-done))

@@ -1,0 +1,2 @@
+-- The laws of the loops over a names line.
+pub mod Items

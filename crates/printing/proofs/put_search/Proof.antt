@@ -1,8 +1,0 @@
--- `printing::put_search` meets its contract: the lent list is zeros, as many as are asked for, up to the limit. Assumes nothing.
-use borrow.Author.Needs.{needs}
-use Rattle.printing.proofs.Rules.{searches}
-use Rattle.printing.proofs.put_search.Statement.{statement}
-use Rattle.printing.proofs.put_search.Tie as tie
-
-pub put-search-spec : {M : Type 1} → statement M
-put-search-spec = tie.close (tie.spec (λ c. search needs) (λ c. search needs) (λ c. search searches) (λ c. search searches) (λ c. search needs) (λ c. search searches))

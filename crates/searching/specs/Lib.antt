@@ -1,0 +1,2 @@
+-- What `search` says of a table.
+pub mod Texts

@@ -1,0 +1,2 @@
+-- How long the lines of a summary are.
+pub mod Bounds

@@ -1,0 +1,2 @@
+-- The lines of a summary.
+pub mod Summary
