@@ -7,8 +7,8 @@ ghost use Rattle.rows.specs.Rows.{rowOf, weighed};
 use decimal::Parsed;
 use text::SPACE;
 
-// The numbers of a row: more than a line has that gives a value to each name.
-pub const ROW_PLACES: usize = 14;
+// The numbers of a row: one for each of the most names, and two behind them.
+pub const ROW_PLACES: usize = program::MOST_ATOMS + 2;
 
 // The largest number that an item is read as, and what stands for an item that is no number.
 const MOST_NUMBER: u64 = 65535;
