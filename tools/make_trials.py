@@ -1,16 +1,21 @@
 #!/usr/bin/env python3
-"""make_trials.py: writes the records that crates/trials tries, into crates/trials/data.
+"""make_trials.py: writes the records that crates/trials and crates/edges try, into the folder data of each.
 
 Needs clingo (Debian's package gringo). The same seed and the same clingo give the same files; VERSION names both.
 A record is a line with its label, the text of a book, an equals sign, numbers with a space between, and the line's end.
 
+In crates/trials/data:
+
   samples     the books of document 01, each with its models
   paper       the worked examples of the paper, labelled by their numbers there, each with its models
+  solver      random books of several kinds, each with the models that clingo gives of its positive form (Proposition 3.13)
+
+In crates/edges/data:
+
   refusals    texts, each with the number that refuses it, 0 where it is taken
   vocabulary  books, each with the number that refuses its fixpoint, 0 where W is at most 64
   rooms       books, each with the number of members of its largest stage, formed here by its definition
   tables      a book, a field of its table, a place in it and a value put there, and 9 or 0 where the table is then still one that the reader could give
-  solver      random books of several kinds, each with the models that clingo gives of its positive form (Proposition 3.13)
 """
 import itertools
 import os
@@ -23,7 +28,8 @@ MOST_MODELS = 300
 LARGE_STAGE = 2000
 MOST_LARGE = 3
 HERE = os.path.dirname(os.path.abspath(__file__))
-DATA = os.path.join(HERE, '..', 'crates', 'trials', 'data')
+TRIALS = os.path.join(HERE, '..', 'crates', 'trials', 'data')
+EDGES = os.path.join(HERE, '..', 'crates', 'edges', 'data')
 
 
 # ---- books: a list of names and a list of clauses, each a list of values
@@ -481,23 +487,24 @@ def record(label, text, numbers):
     return label + '\n' + text + '=' + ' '.join(str(x) for x in numbers) + '\n'
 
 
-def save(name, records):
-    with open(os.path.join(DATA, name), 'w', newline='') as out:
+def save(folder, name, records):
+    with open(os.path.join(folder, name), 'w', newline='') as out:
         out.write(''.join(records))
     print(name, len(records))
 
 
 def main():
     version = subprocess.run(['clingo', '--version'], capture_output=True, text=True).stdout.split('\n')[0]
-    os.makedirs(DATA, exist_ok=True)
-    save('samples', [record(a, text_of(n, c), m) for a, n, c, m in written_out(SAMPLES)])
-    save('paper', [record(a, text_of(n, c), m) for a, n, c, m in written_out(PAPER)])
-    save('refusals', [record(a, t, [r]) for a, t, r in refusals()])
-    save('vocabulary', [record(a, text_of(list('abcdefghijkl')[:n], c), [r]) for a, n, c, r in vocabulary()])
-    save('rooms', [record(a, text_of(n, c), [r]) for a, n, c, r in rooms()])
-    save('solver', [record(a, text_of(n, c), m) for kind in KINDS for a, n, c, m in random_books(*kind)])
-    save('tables', [record(a, t, numbers) for a, t, *numbers in TABLES])
-    with open(os.path.join(DATA, 'VERSION'), 'w') as out:
+    os.makedirs(TRIALS, exist_ok=True)
+    os.makedirs(EDGES, exist_ok=True)
+    save(TRIALS, 'samples', [record(a, text_of(n, c), m) for a, n, c, m in written_out(SAMPLES)])
+    save(TRIALS, 'paper', [record(a, text_of(n, c), m) for a, n, c, m in written_out(PAPER)])
+    save(EDGES, 'refusals', [record(a, t, [r]) for a, t, r in refusals()])
+    save(EDGES, 'vocabulary', [record(a, text_of(list('abcdefghijkl')[:n], c), [r]) for a, n, c, r in vocabulary()])
+    save(EDGES, 'rooms', [record(a, text_of(n, c), [r]) for a, n, c, r in rooms()])
+    save(TRIALS, 'solver', [record(a, text_of(n, c), m) for kind in KINDS for a, n, c, m in random_books(*kind)])
+    save(EDGES, 'tables', [record(a, t, numbers) for a, t, *numbers in TABLES])
+    with open(os.path.join(TRIALS, 'VERSION'), 'w') as out:
         out.write(f'seed {SEED}\n{version}\n')
 
 

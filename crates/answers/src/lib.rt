@@ -1,36 +1,35 @@
-// What a call answered, as numbers, and what it left in the slices that were lent to it: compared with what is expected, and both printed where they differ.
-ghost use Prim.Native.Nat.{_≤_};
-use records::ANY;
-use records::FREE;
-use records::Words;
+// What a call answered, as three numbers, whatever the call: compared with what is expected, and so is what it left in a slice that was lent to it.
+ghost use mathlib.Core.Path.{_≡_};
+ghost use lib.ListN.{getD};
+ghost use Rattle.answers.specs.Answers.{answer, ofVerdict, ofOutcome, ofWritten, ofChecked, allowing, agreeing, heldAt, firstOther, differenceOf};
+use program::Outcome;
+use program::Verdict;
+use stable::Checked;
+use text::Written;
 
-// A record's outcome.
-pub enum Tried {
-    Agrees,
-    Differs,
-    NotAsked,
-}
+// As an expected number, any.
+pub const ANY: u64 = 18_446_744_073_709_551_615;
 
-// What gave the answer: a call, or what it left in the list or the text that was lent to it.
-pub enum Source {
-    Reader,
-    Writer,
-    Search,
-    Fixpoint,
-    Check,
-    Summary,
-    List,
-    Text,
-    Record,
-}
+// The places of a list, of which so many are lent as a call is to have.
+pub const PLACES: usize = 4096;
 
-// An outcome with two numbers: models written and nodes visited, or what the outcome names. An outcome below 100 is the refusal's number.
+// What they hold before the call.
+pub const FREE: u32 = 4_294_967_295;
+
+// An outcome with two numbers: models written and nodes visited, or what the outcome names.
 pub struct Answer {
     pub outcome: u64,
     pub first: u64,
     pub second: u64,
 }
 
+// What is expected, and what was found in its place.
+pub struct Difference {
+    pub expected: Answer,
+    pub found: Answer,
+}
+
+// ---- outcomes: one below 100 is the refusal's number
 pub const ACCEPTED: u64 = 0;
 
 pub const COMPLETE: u64 = 100;
@@ -45,11 +44,34 @@ pub const VIOLATED: u64 = 104;
 
 pub const SMALLER: u64 = 105;
 
-pub const UNSTABLE: u64 = 106;
+// A number and its place.
+pub const NUMBER: u64 = 106;
 
-pub const NUMBER: u64 = 107;
+// Expected of a candidate that is not p-stable; no check answers so.
+pub const UNSTABLE: u64 = 107;
 
-pub fn made(outcome: u64, first: u64, second: u64) -> Answer {
+// ---- what gave an answer: a call, or a slice that was lent to it
+pub const READER: usize = 0;
+
+pub const WRITER: usize = 1;
+
+pub const SEARCH: usize = 2;
+
+pub const FIXPOINT: usize = 3;
+
+pub const CHECK: usize = 4;
+
+pub const SUMMARY: usize = 5;
+
+pub const LIST: usize = 6;
+
+pub const TEXT: usize = 7;
+
+pub const RECORD: usize = 8;
+
+pub fn made(outcome: u64, first: u64, second: u64) -> Answer
+    ensures { λ r. ⌜ r ≡ answer outcome first second ⌝ }
+{
     Answer {
         outcome: outcome,
         first: first,
@@ -57,182 +79,112 @@ pub fn made(outcome: u64, first: u64, second: u64) -> Answer {
     }
 }
 
-pub fn tried_if(agrees: bool) -> Tried {
-    if agrees {
-        return Tried::Agrees;
-    }
-    Tried::Differs
-}
-
-// ---- printing
-fn print_call(source: Source) {
-    match source {
-        Source::Reader => records::print(b"reader"),
-        Source::Writer => records::print(b"writer"),
-        Source::Search => records::print(b"search"),
-        Source::Fixpoint => records::print(b"fixpoint"),
-        Source::Check => records::print(b"check"),
-        _ => records::print(b"summary"),
+// ---- what calls answer
+// A verdict, with a number beside it.
+pub fn of_verdict(verdict: Verdict, beside: u64) -> Answer
+    ensures { λ r. ⌜ r ≡ ofVerdict verdict beside ⌝ }
+{
+    match verdict {
+        Verdict::Accepted => made(ACCEPTED, beside, 0),
+        Verdict::Refused(number) => made(number as u64, beside, 0),
     }
 }
 
-fn print_source(source: Source) {
-    match source {
-        Source::List => records::print(b"list"),
-        Source::Text => records::print(b"text"),
-        Source::Record => records::print(b"record"),
-        _ => print_call(source),
+// How a run that lists models ended, with the models written and the nodes visited.
+pub fn of_outcome(outcome: Outcome, written: u64, visited: u64) -> Answer
+    ensures { λ r. ⌜ r ≡ ofOutcome outcome written visited ⌝ }
+{
+    match outcome {
+        Outcome::Complete => made(COMPLETE, written, visited),
+        Outcome::Full => made(FULL, written, visited),
+        Outcome::Spent => made(SPENT, written, visited),
+        Outcome::Refused(number) => made(number as u64, written, visited),
     }
 }
 
-// How a check ended.
-fn print_checked(outcome: u64) {
-    if outcome == STABLE {
-        records::print(b" stable");
-    } else if outcome == VIOLATED {
-        records::print(b" violated");
-    } else if outcome == SMALLER {
-        records::print(b" smaller");
-    } else if outcome == UNSTABLE {
-        records::print(b" not stable");
+// The length of a text that was written.
+pub fn of_written(written: Written) -> Answer
+    ensures { λ r. ⌜ r ≡ ofWritten written ⌝ }
+{
+    match written {
+        Written::Length(n) => made(ACCEPTED, n as u64, 0),
+        Written::Refused(number) => made(number as u64, 0, 0),
     }
 }
 
-// How a run ended.
-fn print_ended(outcome: u64) {
-    if outcome == COMPLETE {
-        records::print(b" complete");
-    } else if outcome == FULL {
-        records::print(b" full");
-    } else if outcome == SPENT {
-        records::print(b" spent");
-    } else {
-        print_checked(outcome);
+// What the check finds of a candidate, and the candidate.
+pub fn of_checked(checked: Checked, candidate: u64) -> Answer
+    ensures { λ r. ⌜ r ≡ ofChecked checked candidate ⌝ }
+{
+    match checked {
+        Checked::Refused(number) => made(number as u64, 0, candidate),
+        Checked::Violated(k) => made(VIOLATED, k as u64, candidate),
+        Checked::Smaller(j) => made(SMALLER, j as u64, candidate),
+        Checked::Stable => made(STABLE, 0, candidate),
     }
 }
 
-fn print_outcome(outcome: u64) {
-    if outcome == ACCEPTED {
-        records::print(b" accepted");
-    } else if outcome < COMPLETE {
-        records::print(b" refused");
-        print_spaced(outcome);
-    } else {
-        print_ended(outcome);
-    }
-}
-
-fn print_spaced(n: u64) {
-    records::print(b" ");
-    records::print_number(n);
-}
-
-fn print_answer(a: Answer) {
-    print_outcome(a.outcome);
-    print_spaced(a.first);
-    print_spaced(a.second);
-}
-
-// ---- comparing
-fn same(expected: u64, found: u64) -> bool {
+fn allows(expected: u64, found: u64) -> bool
+    ensures { λ r. ⌜ r ≡ allowing expected found ⌝ }
+{
     (expected == ANY) | (expected == found)
 }
 
-// Whether an answer is as expected; where not, says both.
-pub fn agree(source: Source, expected: Answer, found: Answer) -> bool {
-    let numbers = same(expected.first, found.first) & same(expected.second, found.second);
-    if numbers & (expected.outcome == found.outcome) {
-        return true;
-    }
-    print_source(source);
-    print_answer(found);
-    records::print(b", expected");
-    print_answer(expected);
-    false
-}
-
-// Whether the number at a place is as expected; where not, says both, each with the place.
-pub fn agree_number(source: Source, expected: u64, found: u64, at: u64) -> bool {
-    agree(source, made(NUMBER, expected, at), made(NUMBER, found, at))
-}
-
-// ---- lent slices
-// Where a part that is lent begins.
-pub const START: usize = 0;
-
-// What the bytes of a lent text hold before a call.
-pub const FREE_BYTE: u8 = 255;
-
-// So many places, or as many as there are.
-pub fn places(n: usize, most: usize) -> usize
-    ensures { λ r. ⌜ r ≤ most ⌝ }
+// Whether an answer is as expected.
+pub fn agree(expected: Answer, found: Answer) -> bool
+    ensures { λ r. ⌜ r ≡ agreeing expected found ⌝ }
 {
-    if most < n {
-        return most;
-    }
-    n
+    (expected.outcome == found.outcome)
+        & allows(expected.first, found.first)
+        & allows(expected.second, found.second)
 }
 
-// The word at the place `k` where the first `m` are written.
-fn word_at(words: &[u32; 4096], m: u64, k: usize) -> u64 {
-    if m <= k as u64 {
-        return FREE as u64;
-    }
-    if 4096 <= k {
+// ---- what was lent
+fn wide(w: u32) -> u64
+    ensures { λ r. ⌜ r ≡ w ⌝ }
+{
+    w as u64
+}
+
+fn word_at(words: &[u32], k: usize) -> u64
+    ensures { λ r. ⌜ r ≡ getD (now (words .entry)) k 4294967295 ⌝ }
+{
+    if words.len() <= k {
         return FREE as u64;
     }
     wide(words[k])
 }
 
-fn wide(w: u32) -> u64 {
-    w as u64
+fn held_at(list: &[u32; PLACES], k: usize) -> u64
+    ensures { λ r. ⌜ r ≡ heldAt (now (list .entry)) k ⌝ }
+{
+    if PLACES <= k {
+        return FREE as u64;
+    }
+    wide(list[k])
 }
 
-// Whether the list holds the first `m` words, and behind them what it held before.
-pub fn agree_list(list: &[u32; 4096], words: Words, m: u64) -> bool {
-    let expected = words.list;
+// The first place where the list holds another word than it should; its length where there is none.
+fn first_other(list: &[u32; PLACES], words: &[u32]) -> usize
+    ensures { λ r. ⌜ r ≡ firstOther (now (words .entry)) (now (list .entry)) ⌝ }
+{
     let mut k: usize = 0;
-    while k < 4096 {
-        if !agree_number(
-            Source::List,
-            word_at(&expected, m, k),
-            wide(list[k]),
-            k as u64,
-        ) {
-            return false;
+    while k < PLACES {
+        if held_at(list, k) != word_at(words, k) {
+            return k;
         }
         k += 1;
     }
-    true
+    k
 }
 
-fn byte_at(text: &[u8], n: u64, k: usize) -> u64 {
-    if n <= k as u64 {
-        return FREE_BYTE as u64;
+// What a list should hold, the words and free places behind them, and what it holds, at the first place where these differ; behind the list where they do not.
+pub fn list_difference(list: &[u32; PLACES], words: &[u32]) -> Difference
+    ensures { λ r. ⌜ r ≡ differenceOf (now (words .entry)) (now (list .entry)) ⌝ }
+{
+    let k = first_other(list, words);
+    Difference {
+        expected: made(NUMBER, word_at(words, k), k as u64),
+        found: made(NUMBER, held_at(list, k), k as u64),
     }
-    if text.len() <= k {
-        return FREE_BYTE as u64;
-    }
-    wide_byte(text[k])
-}
-
-fn wide_byte(b: u8) -> u64 {
-    b as u64
-}
-
-// Whether `out` holds the first `n` bytes of the text, and behind them what it held before.
-pub fn agree_text(out: &[u8; 4097], text: &[u8], n: u64) -> bool {
-    let mut k: usize = 0;
-    while k < 4097 {
-        if !agree_number(
-            Source::Text,
-            byte_at(text, n, k),
-            wide_byte(out[k]),
-            k as u64,
-        ) {
-            return false;
-        }
-        k += 1;
-    }
-    true
 }

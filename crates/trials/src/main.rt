@@ -1,68 +1,157 @@
-// Tries the engine from outside, by its public calls alone: a line for each family says how many were tried and how many agree.
-// A family is a file of records; what is asked of a record stands in `families` and `edges`, and how a record is read in `records`.
-// The first disagreement is printed with both answers and its label, and ends the program.
-use answers::Tried;
-use edges::Edge;
-use records::Record;
-use records::Words;
+// Tries the engine from outside, by its public calls alone, on books with stored models: a line for each family says how many were tried and how many agree.
+// What is asked of a book stands in a file for each family, and the calls themselves in `asking`.
+// The first disagreement is printed with both answers and its record's label, and ends the program.
+mod asking;
+mod candidates;
+mod fixpoints;
+mod saying;
+mod searches;
+mod texts;
 
-// What is asked of each record of a file: one of the calls on a book with stored models, or what is refused.
+ghost use mathlib.Core.Path.{_≡_};
+ghost use Prim.Native.Nat.{_≤_, _<_};
+ghost use lib.ListN.{length};
+ghost use Rattle.io.specs.Counts.{Counts};
+use answers::FREE;
+use answers::PLACES;
+
+// A record's outcome.
+enum Tried {
+    Agrees,
+    Differs,
+    NotAsked,
+}
+
+// The calls that a book is put to.
 enum Family {
     Texts,
     Searches,
     Fixpoints,
     Candidates,
-    Edge(Edge),
 }
 
-fn ask(family: Family, text: &[u8], words: Words) -> Tried {
-    let agrees = match family {
-        Family::Fixpoints => return families::fixpoints::tried(text, words),
-        Family::Texts => families::texts::agrees(text),
-        Family::Searches => families::searches::agrees(text, words),
-        Family::Candidates => families::candidates::agrees(text, words),
-        Family::Edge(edge) => edges::agrees(edge, text, words),
-    };
-    answers::tried_if(agrees)
+fn tried_if(agrees: bool) -> Tried {
+    if agrees {
+        return Tried::Agrees;
+    }
+    Tried::Differs
+}
+
+fn ask(family: Family, text: &[u8], words: &[u32]) -> Tried {
+    let p = asking::table_of(text);
+    match family {
+        Family::Texts => tried_if(texts::agrees(text)),
+        Family::Searches => tried_if(searches::agrees(p, words)),
+        Family::Fixpoints => fixpoints::tried(p, words),
+        Family::Candidates => tried_if(candidates::agrees(p, words)),
+    }
+}
+
+// ---- what is lent
+// Where a part that is lent begins.
+const START: usize = 0;
+
+fn at_most(n: usize, most: usize) -> usize
+    ensures { λ r. ⌜ r ≤ most ⌝ }
+{
+    if most < n {
+        return most;
+    }
+    n
+}
+
+// ---- records
+fn word_of(n: u64) -> u32 {
+    if 4_294_967_295 < n {
+        return FREE;
+    }
+    n as u32
+}
+
+// The numbers of a line as words; how many there are.
+fn read_words(line: &[u8], words: &mut [u32]) -> usize
+    ensures { λ r. ⌜ r ≤ length (now (words .exit)) ⌝ }
+{
+    let mut n: usize = 0;
+    let mut at: usize = 0;
+    while at < line.len() {
+        if words.len() <= n {
+            return n;
+        }
+        let number = records::number_at(line, at);
+        words[n] = word_of(number.value);
+        n += 1;
+        at = number.next;
+    }
+    n
 }
 
 // A record that the file's end cuts disagrees.
-fn try_record(family: Family, file: &[u8], r: Record) -> Tried {
+fn try_book(family: Family, whole: bool, text: &[u8], line: &[u8]) -> Tried {
+    if !whole {
+        return tried_if(saying::is_number(answers::RECORD, 1, 0, 0));
+    }
+    let mut words = [FREE; PLACES];
+    let n = read_words(line, &mut words);
+    ask(family, text, &words[START..n])
+}
+
+// What a record gives: whether it disagrees, what it counts, and where the next begins.
+struct Step {
+    differs: bool,
+    counts: u64,
+    next: usize,
+}
+
+fn step_to(tried: Tried, next: usize) -> Step
+    ensures { λ r. ⌜ r .next ≡ next ⌝ }
+{
+    match tried {
+        Tried::Agrees => Step {
+            differs: false,
+            counts: 1,
+            next: next,
+        },
+        Tried::NotAsked => Step {
+            differs: false,
+            counts: 0,
+            next: next,
+        },
+        Tried::Differs => Step {
+            differs: true,
+            counts: 0,
+            next: next,
+        },
+    }
+}
+
+fn try_record(family: Family, file: &[u8], at: usize) -> Step
+    requires { ⌜ at < length (now file) ⌝ }
+    ensures { λ r. ⌜ at < r .next ⌝ }
+    ensures { λ r. ⌜ r .next ≤ length (now (file .entry)) ⌝ }
+{
+    let r = records::record_at(file, at);
     let text = r.text;
     let text_end = r.text_end;
     let line = r.line;
     let line_end = r.line_end;
-    if file.len() <= line_end {
-        return Tried::Differs;
-    }
-    if text_end < text {
-        return Tried::Differs;
-    }
-    if file.len() < text_end {
-        return Tried::Differs;
-    }
-    if line_end < line {
-        return Tried::Differs;
-    }
-    ask(
+    let tried = try_book(
         family,
+        r.whole,
         &file[text..text_end],
-        records::words_of(&file[line..line_end]),
-    )
+        &file[line..line_end],
+    );
+    step_to(tried, r.next)
 }
 
-fn differs(tried: Tried) -> bool {
-    match tried {
-        Tried::Differs => true,
-        _ => false,
-    }
-}
-
-fn one_more_if(n: u64, tried: Tried) -> u64 {
-    match tried {
-        Tried::Agrees => std::num::wrapping_add_u64(n, 1),
-        _ => n,
-    }
+fn print_label(file: &[u8], at: usize)
+    requires { ⌜ at < length (now file) ⌝ }
+{
+    let r = records::record_at(file, at);
+    let end = r.label_end;
+    saying::print(b", at ");
+    saying::print(&file[at..end]);
+    saying::print(b"\n");
 }
 
 // How many records agree; none where one does not.
@@ -70,77 +159,86 @@ fn count_agreeing(family: Family, file: &[u8]) -> u64 {
     let mut at: usize = 0;
     let mut n: u64 = 0;
     while at < file.len() {
-        let r = records::record_at(file, at);
-        let tried = try_record(family, file, r);
-        if differs(tried) {
-            records::print_label(file, r);
+        let step = try_record(family, file, at);
+        if step.differs {
+            print_label(file, at);
             return 0;
         }
-        n = one_more_if(n, tried);
-        at = r.next;
+        n = std::num::wrapping_add_u64(n, step.counts);
+        at = step.next;
     }
     n
 }
 
-fn try_family(name: &[u8], family: Family, file: &[u8]) -> bool {
-    records::print_counts(name, count_agreeing(family, file))
-}
-
-// The books with stored models, by each call.
-fn try_calls(file: &[u8]) -> bool {
-    try_family(b"  read and written back", Family::Texts, file)
-        && try_family(b"  searched", Family::Searches, file)
-        && try_family(b"  by the fixpoint", Family::Fixpoints, file)
-        && try_family(b"  candidates checked", Family::Candidates, file)
-}
-
-// What the records of a file are put to.
-enum Asked {
-    Calls,
-    Edge(Edge),
-}
-
-fn try_records(path: &[u8], asked: Asked, file: &[u8]) -> bool {
-    match asked {
-        Asked::Calls => {
-            records::print(path);
-            records::print(b"\n");
-            try_calls(file)
-        }
-        Asked::Edge(edge) => try_family(path, Family::Edge(edge), file),
+// ---- files
+fn print_family(family: Family) {
+    match family {
+        Family::Texts => saying::print(b"  read and written back: "),
+        Family::Searches => saying::print(b"  searched: "),
+        Family::Fixpoints => saying::print(b"  by the fixpoint: "),
+        Family::Candidates => saying::print(b"  candidates checked: "),
     }
 }
 
+// The number of records that agree, 0 where one does not and the family was stopped.
+fn print_counts(agree: u64) -> bool {
+    if agree == 0 {
+        saying::print(b"stopped\n");
+        return false;
+    }
+    saying::print_number(agree);
+    saying::print(b" tried, ");
+    saying::print_number(agree);
+    saying::print(b" agree\n");
+    true
+}
+
+fn try_family(family: Family, file: &[u8]) -> bool {
+    let agree = count_agreeing(family, file);
+    print_family(family);
+    print_counts(agree)
+}
+
+fn try_families(file: &[u8]) -> bool {
+    try_family(Family::Texts, file)
+        && try_family(Family::Searches, file)
+        && try_family(Family::Fixpoints, file)
+        && try_family(Family::Candidates, file)
+}
+
+// The file's bytes at the start of `file`; their number, 0 where it cannot be opened.
+fn read(path: &[u8], file: &mut [u8]) -> usize
+    ensures { λ r. ⌜ Counts r (now (file .exit)) ⌝ }
+{
+    let fd = os::open_read(path);
+    if fd < 0 {
+        os::fail(path);
+        return 0;
+    }
+    let n = io::read_full(fd, file);
+    libc::close(fd);
+    n
+}
+
 // The largest file, the solver's books, has 237,618 bytes.
-fn try_file(path: &[u8], asked: Asked) -> bool {
+fn try_file(path: &[u8]) -> bool {
     let mut file = [0u8; 262144];
-    let n = records::read(path, &mut file);
-    try_records(path, asked, &file[..n])
-}
-
-// Document 01's samples, the paper's examples, and random books with the models that an outside solver gives.
-fn try_models() -> bool {
-    try_file(b"samples", Asked::Calls)
-        && try_file(b"paper", Asked::Calls)
-        && try_file(b"solver", Asked::Calls)
-}
-
-// What is refused, at both sides of its edge.
-fn try_refused() -> bool {
-    try_file(b"refusals", Asked::Edge(Edge::Refusals))
-        && try_file(b"tables", Asked::Edge(Edge::Tables))
-        && try_file(b"vocabulary", Asked::Edge(Edge::Vocabulary))
-        && try_file(b"rooms", Asked::Edge(Edge::Rooms))
+    let n = read(path, &mut file);
+    saying::print(path);
+    saying::print(b"\n");
+    try_families(&file[..n])
 }
 
 // The numbers of nodes that document 01 gives.
 fn try_nodes() -> bool {
-    families::searches::has_nodes(b"a\n", 7)
-        && families::searches::has_nodes(b"fell due\n1 0\n2 0\n16 1\n", 23)
+    searches::has_nodes(asking::table_of(b"a\n"), 7)
+        && searches::has_nodes(asking::table_of(b"fell due\n1 0\n2 0\n16 1\n"), 23)
 }
 
+// Document 01's samples, the paper's examples, and random books with the models that an outside solver gives.
 fn main() {
-    if try_models() && try_refused() && try_nodes() {
-        records::print_counts(b"node counts", 2);
+    if try_file(b"samples") && try_file(b"paper") && try_file(b"solver") && try_nodes() {
+        saying::print(b"node counts: ");
+        print_counts(2);
     }
 }

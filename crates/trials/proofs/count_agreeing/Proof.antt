@@ -15,4 +15,4 @@ pub count-agreeing-spec : {M : Type 1} → statement M
 count-agreeing-spec =
     tie.close (tie.spec Inv-loop μ-loop
     (λ c. search needs) (λ c. search needs) (λ c. search needs) (λ c. search needs) (λ c. search needs) (λ c. search needs)
-    (λ c. search needs) (λ c. search needs) (λ c. search needs) (λ c. search needs))
+    (λ c. search needs) (λ c. search needs))

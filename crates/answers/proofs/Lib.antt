@@ -1,0 +1,3 @@
+-- The laws of this crate's functions.
+pub mod Cases
+pub mod Others

@@ -1,0 +1,14 @@
+-- `answers::of_checked` meets its contract, case by case as the definition goes: `checked-case`. Assumes nothing.
+use borrow.Author.Needs.{needs}
+use Rattle.answers.specs.Answers.{ofChecked}
+use Rattle.answers.proofs.Cases.{checked-case}
+use Rattle.answers.proofs.of_checked.Statement.{statement}
+use Rattle.answers.proofs.of_checked.Tie as tie
+
+pub of-checked-spec : {M : Type 1} → statement M
+unfolding ofChecked
+of-checked-spec =
+    tie.close (tie.spec
+    (λ c. search needs) (λ c. search needs) (λ c. search needs) (λ c. search needs) (λ c. search needs) (λ c. search needs)
+    (λ c. search needs) (λ c. search needs) (λ c. search needs) (λ c. search needs) (λ c. search needs) (λ c. search checked-case)
+    (λ c. search checked-case) (λ c. search checked-case) (λ c. search checked-case))

@@ -1,0 +1,2 @@
+-- What is said of answers as numbers; the laws stand in proofs/.
+pub mod Answers

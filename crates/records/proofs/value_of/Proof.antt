@@ -1,0 +1,9 @@
+-- `records::value_of` meets its contract, case by case as the definition goes. Assumes nothing.
+use Rattle.records.specs.Records.{valueOf}
+use borrow.Author.Needs.{needs}
+use Rattle.records.proofs.value_of.Statement.{statement}
+use Rattle.records.proofs.value_of.Tie as tie
+
+pub value-of-spec : {M : Type 1} → statement M
+unfolding valueOf
+value-of-spec = tie.close (tie.spec (λ c. search needs) (λ c. search needs) (λ c. search needs) (λ c. search needs))

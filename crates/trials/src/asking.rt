@@ -1,0 +1,53 @@
+// The calls of the engine that a book with stored models is put to, each in one place.
+use answers::ANY;
+use answers::Answer;
+use answers::FREE;
+use answers::PLACES;
+use program::Program;
+
+pub fn table_of(text: &[u8]) -> Program {
+    let read = reader::read_program(text);
+    read.program
+}
+
+pub fn read(text: &[u8]) -> Answer {
+    let read = reader::read_program(text);
+    let verdict = read.verdict;
+    answers::of_verdict(verdict, 0)
+}
+
+pub fn write(p: Program, out: &mut [u8]) -> Answer {
+    answers::of_written(writer::write_program(p, out))
+}
+
+pub fn search(p: Program, limit: u64, list: &mut [u32]) -> Answer {
+    let a = search::search(p, limit, list);
+    let outcome = a.outcome;
+    answers::of_outcome(outcome, a.written as u64, a.visited)
+}
+
+// The number of nodes of the whole tree.
+pub fn nodes_of(p: Program) -> u64 {
+    let mut list = [FREE; PLACES];
+    let a = search::search(p, ANY, &mut list);
+    a.visited
+}
+
+// The fixpoint in full room.
+pub fn fixpoint(p: Program, list: &mut [u32]) -> Answer {
+    let mut work = [0u64; 65536];
+    let mut more_work = [0u64; 65536];
+    let a = fixpoint::fixpoint(p, list, &mut work, &mut more_work);
+    let outcome = a.outcome;
+    answers::of_outcome(outcome, a.written as u64, 0)
+}
+
+pub fn check(p: Program, w: u32) -> Answer {
+    answers::of_checked(stable::check(p, w), w as u64)
+}
+
+pub fn summarize(p: Program, words: &[u32]) -> Answer {
+    let s = summary::summarize(p, words);
+    let verdict = s.verdict;
+    answers::of_verdict(verdict, 0)
+}
