@@ -13,7 +13,10 @@ Inv-loop heads bodies count stage members after₀ n₀ p₀ after n p = Steppin
 abbrev μ-loop : tie.MeasureT-loop
 μ-loop heads bodies count stage members after₀ n₀ p₀ after n p = members - p
 
+loop-again : tie.Need-loop-again Inv-loop μ-loop
+loop-again c = search step-next
+
 pub step-spec : {M : Type 1} → statement M
 step-spec = tie.close (tie.spec Inv-loop μ-loop (λ c. search step-start) (λ c. search step-long) (λ c. search step-over) (λ c. search needs)
-    (λ c. search needs) (λ c. search (step-rises, needs)) (λ c. search needs) (λ c. search needs) (λ c. search step-next) (λ c. search step-long)
+    (λ c. search needs) (λ c. search (step-rises, needs)) (λ c. search needs) (λ c. search needs) loop-again (λ c. search step-long)
     (λ c. search step-done))
