@@ -1,6 +1,6 @@
 -- Clauses put one behind the other into two slices: one, then others, and those that are still to come. Assumes nothing.
 use Prim.Native.Nat.{ℕ, _+_, _-_, _≤_}
-use lib.ListN.{length, drop, set, length-set, length-append}
+use lib.ListN.{drop, set, length-set, length-append}
 use lib.Seq.{getD-set-same, getD-set-other, drop-set-lt, drop-drop}
 use mathlib.Core.List.{List, [], _∷_, _++_, append-assoc, append-nil}
 use mathlib.Core.Path.{_≡_, refl, sym, ap, ap₂, _∙_, subst}

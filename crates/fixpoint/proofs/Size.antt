@@ -14,10 +14,10 @@ use lib.ListN.{length, length-append, length-map}
 use Rattle.sets.specs.Lists.{Each}
 use Rattle.sets.proofs.Tests.{T-and-l, T-and-r}
 use Rattle.program.specs.Clauses.{Clause, Below}
-use Rattle.rising.specs.Literals.{literals}
+use Rattle.literals.specs.Literals.{literals}
 use Rattle.operator.specs.Operator.{WordRule}
 use Rattle.transform.specs.Transform.{Stand, numbered, rule, clauseB, clauseC, clauseD, rewritten, becomes, standIns, kappaFrom, allStandIns, members}
-use Rattle.rising.proofs.Literals.{literals-length}
+use Rattle.literals.proofs.Literals.{literals-length}
 
 -- ---- how many clauses the transform makes
 

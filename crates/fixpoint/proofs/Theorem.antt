@@ -17,7 +17,7 @@ use Rattle.transform.proofs.Theory.{transformed, vocabularySize}
 use Rattle.stable.proofs.Decides.{StableWord}
 use Rattle.stages.proofs.Minimal.{rests, wordRule, minimal-out, minimal-in}
 use Rattle.rising.proofs.RisingSets.{in-addAll, addAll-in, addAll-rising, nothing-rises}
-use Rattle.rising.specs.Literals.{literals}
+use Rattle.literals.specs.Literals.{literals}
 use Rattle.stages.specs.Minimal.{minimalModels}
 use Rattle.stages.specs.Run.{ending}
 

@@ -2,7 +2,7 @@
 use mathlib.Core.Path.{_≡_, refl, sym, ap, ap₂, _∙_, subst}
 use mathlib.Core.Bool.{Bool, true, false, not, cond}
 use mathlib.Core.List.{List, [], _∷_, _++_}
-use mathlib.Core.Logic.{_⊎_, inl, ⊎-elim}
+use mathlib.Core.Logic.{inl}
 use Prim.Native.Nat.{ℕ, _+_, _-_, _*_, _^_, _%_, _≤_, _<_}
 use native.Mathlib.Nat.{one-mul}
 use native.Mathlib.Omega.{arith}
@@ -17,10 +17,10 @@ use Rattle.sets.specs.Lists.{_∈_, sift, upFrom, onward, tabulate}
 use Rattle.sets.specs.Words.{bit, meets}
 use Rattle.sets.proofs.Lists.{onward-start, onward-step, onward-done, upFrom-ext, upFrom-add}
 use Rattle.sets.proofs.Tests.{T-true}
-use Rattle.sets.proofs.Digits.{bits-ext, meets-bits}
-use Rattle.rising.proofs.Literals.{literals-low, lit-out}
+use Rattle.sets.proofs.Digits.{or-assoc, meets-bits}
+use Rattle.literals.proofs.Literals.{literals-low, lit-out}
 use Rattle.heads.specs.Heads.{Literal, headAt, offeredBy, without}
-use Rattle.sets.proofs.Branches.{in-or, or-left, or-right, in-pow}
+use Rattle.sets.proofs.Branches.{in-pow}
 
 -- ---- words
 pub one-shl : (h : ℕ) → h < 64 → 1 * 2 ^ h % 2 ^ 64 ≡ 2 ^ h
@@ -63,15 +63,6 @@ module _ (ws : List ℕ) (n : ℕ) where
 -- ---- the literals of the heads before k
 pub record Joining (ws : List ℕ) (n all k : ℕ) : Type 0 where
   pub whole : bitOr all (offeredBy (onward (headAt ws) n k)) ≡ offeredBy (tabulate (headAt ws) n)
-
-or-assoc : (a b c : ℕ) → bitOr (bitOr a b) c ≡ bitOr a (bitOr b c)
-or-assoc a b c = bits-ext (bitOr (bitOr a b) c) (bitOr a (bitOr b c))
-    (λ i t. ⊎-elim
-    (λ u. ⊎-elim (λ x. or-left a (bitOr b c) i x) (λ y. or-right a (bitOr b c) i (or-left b c i y)) (in-or a b i u))
-    (λ z. or-right a (bitOr b c) i (or-right b c i z)) (in-or (bitOr a b) c i t))
-    (λ i t. ⊎-elim
-    (λ x. or-left (bitOr a b) c i (or-left a b i x))
-    (λ u. ⊎-elim (λ y. or-left (bitOr a b) c i (or-right a b i y)) (λ z. or-right (bitOr a b) c i z) (in-or b c i u)) (in-or a (bitOr b c) i t))
 
 module _ (ws : List ℕ) (n : ℕ) where
   pub join-start : Joining ws n 0 0

@@ -16,9 +16,9 @@ use Rattle.sets.specs.Words.{_⊑_, bit, put, meets}
 use Rattle.sets.proofs.Lists.{in-flatMap, flatMap-in}
 use Rattle.sets.proofs.Tests.{T?}
 use Rattle.sets.proofs.Digits.{bit-zero, bits-ext}
-use Rattle.rising.specs.Literals.{literals}
+use Rattle.literals.specs.Literals.{literals}
 use Rattle.rising.specs.RisingSets.{addAll}
-use Rattle.rising.proofs.Literals.{lit-out, put-put}
+use Rattle.literals.proofs.Literals.{lit-out, put-put}
 use Rattle.rising.proofs.RisingSets.{addAll-same}
 use Rattle.heads.specs.Heads.{picks, offeredBy}
 use Rattle.sets.proofs.Branches.{in-or, or-left, or-right, both-in, in-both, in-pow, pow-in}

@@ -14,8 +14,8 @@ use Rattle.sets.specs.Words.{bit, put}
 use Rattle.sets.proofs.Lists.{some-in, in-some, in-flatMap, flatMap-in, onward-start, onward-step, onward-done}
 use Rattle.sets.proofs.Tests.{dec, clash, true-T}
 use Rattle.sets.proofs.Digits.{bit-zero}
-use Rattle.rising.specs.Literals.{literals}
-use Rattle.rising.proofs.Literals.{lit-in, lit-out, literals-none}
+use Rattle.literals.specs.Literals.{literals}
+use Rattle.literals.proofs.Literals.{lit-in, lit-out, literals-none}
 use Rattle.heads.specs.Heads.{Literal, headAt, picks, without}
 use Rattle.sets.proofs.Branches.{in-both, both-in, in-pow, pow-in}
 use Rattle.heads.proofs.Tests.{in-without, without-in}

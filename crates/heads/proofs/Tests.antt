@@ -9,7 +9,7 @@ use Rattle.sets.specs.Words.{_⊑_, bit, inside}
 use Rattle.sets.proofs.Branches.{or-left, both-in, in-both, Between}
 use Rattle.sets.proofs.Tests.{T-true, T-and, T-and-l, T-and-r}
 use Rattle.sets.proofs.Digits.{bits-ext, inside→⊑, ⊑→inside}
-use Rattle.rising.proofs.Literals.{bit-minus}
+use Rattle.literals.proofs.Literals.{bit-minus}
 use Rattle.heads.specs.Heads.{without, between}
 
 -- ---- a word less what another has of it

@@ -6,7 +6,7 @@ use Prim.Native.Nat.{ℕ, _-_, _<_}
 use lib.Bits.{bitAnd, bitOr}
 use lib.ListN.{getD}
 use Rattle.sets.specs.Words.{bit, inside, put}
-use Rattle.rising.specs.Literals.{literals}
+use Rattle.literals.specs.Literals.{literals}
 
 -- the head at a place of an array of words
 abbrev pub headAt : List ℕ → ℕ → ℕ

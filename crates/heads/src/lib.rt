@@ -40,7 +40,7 @@ fn pick(s: u64, k: usize, partner: &[usize; 64]) -> u32
             return t as u32;
         }
     }
-    rising::lowest(s)
+    literals::lowest(s)
 }
 
 // ---- tests of the heads
@@ -141,10 +141,10 @@ fn made<'a>(
     let mut rest = wide[k] & w;
     while rest != 0 {
         let t = pick(rest, k, partner);
-        if made(wide, n, w, k + 1, rising::with(j, t), partner) {
+        if made(wide, n, w, k + 1, literals::with(j, t), partner) {
             return true;
         }
-        rest = less(rest, rising::with(0, t));
+        rest = less(rest, literals::with(0, t));
     }
     false
 }

@@ -17,10 +17,10 @@ use Rattle.sets.specs.Words.{inside, put}
 use Rattle.sets.proofs.Lists.{onward-step, onward-done}
 use Rattle.sets.proofs.Tests.{both-true, via-true, via-false}
 use Rattle.rising.specs.Growing.{Grown}
-use Rattle.rising.specs.Literals.{literals, low}
+use Rattle.literals.specs.Literals.{literals, low}
 use Rattle.rising.specs.RisingSets.{addAll}
 use Rattle.rising.proofs.Growing.{Growing, grow-start, grow-call, grow-done, grow-over}
-use Rattle.rising.proofs.Literals.{low-less, literals-low, literals-none, lowest-small}
+use Rattle.literals.proofs.Literals.{low-less, literals-low, literals-none, lowest-small}
 use Rattle.heads.specs.Heads.{headAt, picks}
 use Rattle.heads.proofs.Loops.{heads-same, heads-more}
 use Rattle.heads.proofs.Picks.{head-first}

@@ -8,8 +8,8 @@ use native.Mathlib.Omega.{arith}
 use Rattle.sets.proofs.Tests.{T-and-l, T-and-r, T-true}
 use Rattle.sets.specs.Lists.{anyOf}
 use Rattle.sets.specs.Words.{inside, put}
-use Rattle.rising.proofs.Literals.{literals-none}
-use Rattle.rising.specs.Literals.{literals}
+use Rattle.literals.proofs.Literals.{literals-none}
+use Rattle.literals.specs.Literals.{literals}
 use Rattle.heads.specs.Heads.{picks}
 use Rattle.operator.specs.Operator.{WordRule, choices, fired, next, bars, barred}
 use Rattle.rising.specs.RisingSets.{addAll}

@@ -7,7 +7,7 @@ use mathlib.Core.List.{List, [], _∷_, flatMap}
 use mathlib.Core.Path.{_≡_}
 use Rattle.sets.specs.Lists.{anyOf}
 use Rattle.sets.specs.Words.{inside, put}
-use Rattle.rising.specs.Literals.{literals}
+use Rattle.literals.specs.Literals.{literals}
 use Rattle.rising.specs.RisingSets.{gather}
 use Rattle.rising.specs.Growing.{Grown}
 

@@ -39,7 +39,7 @@ fn choose<'a>(
     if k == count {
         return heads::combine(wide, n, j, set, members);
     }
-    if !rising::subset(bodies[k], i) {
+    if !literals::subset(bodies[k], i) {
         return choose(heads, bodies, count, i, k + 1, j, wide, n, set, members);
     }
     let head = heads[k];
@@ -53,7 +53,7 @@ fn choose<'a>(
         if set.len() < m {
             return m;
         }
-        let v = rising::with(j, rising::lowest(rest));
+        let v = literals::with(j, literals::lowest(rest));
         m = choose(heads, bodies, count, i, k + 1, v, wide, n, set, m);
         rest = rest & (rest - 1);
     }

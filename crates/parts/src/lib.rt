@@ -20,7 +20,7 @@ fn is_canonical(w: u64, m: u32) -> bool
     requires { ⌜ m < 64 ⌝ }
     ensures { λ r. ⌜ r ≡ canonical m w ⌝ }
 {
-    rising::subset(low_part(w >> m, m), low_part(w, m))
+    literals::subset(low_part(w >> m, m), low_part(w, m))
 }
 
 // Forms in `set` the set of the literal parts of the canonical ones among the first `count` words.

@@ -17,8 +17,8 @@ use Rattle.epistemic.proofs.Masks.{mask-unmask}
 use Rattle.epistemic.proofs.Slots.{mask-++, mask-shift}
 use Rattle.program.specs.Clauses.{clauseOf}
 use Rattle.sets.specs.Words.{mask}
-use Rattle.rising.proofs.Literals.{literals-low, literals-none, literals-length}
-use Rattle.rising.specs.Literals.{literals}
+use Rattle.literals.proofs.Literals.{literals-low, literals-none, literals-length}
+use Rattle.literals.specs.Literals.{literals}
 use Rattle.operator.specs.Operator.{WordRule}
 use Rattle.emission.proofs.Emit.{emits-as, room-as, room-one, room-first, room-then, emits-then}
 use Rattle.transform.proofs.Theory.{literals-unmask}

@@ -5,7 +5,7 @@ use mathlib.Core.List.{List, _++_, map}
 use Rattle.program.specs.Clauses.{Clause, Below, clauseAt}
 use Rattle.sets.specs.Lists.{Each, tabulate}
 use Rattle.sets.specs.Words.{mask}
-use Rattle.rising.specs.Literals.{literals}
+use Rattle.literals.specs.Literals.{literals}
 use Rattle.operator.specs.Operator.{WordRule}
 use Rattle.transform.specs.Transform.{Stand, numbered, rewritten, becomes, standIns}
 use Rattle.emission.specs.Emit.{Places}

@@ -5,7 +5,7 @@ ghost use Prim.Native.Nat.{_+_, _^_, _≤_, _<_};
 ghost use lib.ListN.{length};
 ghost use Rattle.sets.specs.Lists.{tabulate};
 ghost use Rattle.sets.specs.Words.{mask};
-ghost use Rattle.rising.specs.Literals.{literals};
+ghost use Rattle.literals.specs.Literals.{literals};
 ghost use Rattle.program.specs.Clauses.{clauseOf, clauseAt};
 ghost use Rattle.transform.specs.Transform.{becomes, members, kappaFrom};
 ghost use Rattle.emission.specs.Emit.{Emits, Places};

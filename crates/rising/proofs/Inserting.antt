@@ -7,7 +7,6 @@ use mathlib.Core.List.{List}
 use mathlib.Core.Path.{_≡_, refl, ap, _∙_}
 use native.Mathlib.Omega.{arith}
 use Rattle.sets.specs.Lists.{Rising}
-use Rattle.rising.proofs.Literals.{with-is}
 use Rattle.rising.proofs.RisingSets.{rank-within, rank-low, rank-high}
 use Rattle.rising.proofs.Slices.{opened-none, opened-one, stands-in, stands-out, inserted-present, inserted-over, inserted-new, place-there}
 use Rattle.rising.specs.RisingSets.{rank}
@@ -92,4 +91,4 @@ pub ruleset placing = (bracket-start, bracket-right, bracket-left, bracket-done,
 
 pub ruleset opening = (open-start, open-step, open-done, needs)
 
-pub ruleset inserting = (stands-in, stands-out, inserted-present, inserted-over, inserted-new, place-there, with-is, needs)
+pub ruleset inserting = (stands-in, stands-out, inserted-present, inserted-over, inserted-new, place-there, needs)

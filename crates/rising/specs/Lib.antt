@@ -1,5 +1,4 @@
--- Rising sets in slices, and the literals of a word; the laws stand in proofs/.
-pub mod Literals
+-- Rising sets in slices; the laws stand in proofs/.
 pub mod RisingSets
 pub mod Slices
 pub mod Growing

@@ -1,10 +1,8 @@
-// Rising sets of 64-bit words in lent slices, and the literals of a word.
+// Rising sets of 64-bit words in lent slices.
 ghost use mathlib.Core.Path.{_≡_};
 ghost use Prim.Native.Nat.{_≤_, _<_};
 ghost use lib.ListN.{length, take};
-ghost use lib.Count.{trailingZeros};
 ghost use Rattle.sets.specs.Lists.{Rising};
-ghost use Rattle.sets.specs.Words.{inside, put};
 ghost use Rattle.rising.specs.RisingSets.{insertInto, rank};
 ghost use Rattle.rising.specs.Slices.{opened, standsAt, Inserted};
 
@@ -64,26 +62,4 @@ pub fn insert(set: &mut [u64], members: usize, x: u64) -> usize
     open(set, at, members);
     set[at] = x;
     members + 1
-}
-
-// Whether `a` is a subset of `b`.
-pub fn subset(a: u64, b: u64) -> bool
-    ensures { λ r. ⌜ r ≡ inside a b ⌝ }
-{
-    a & b == a
-}
-
-// `j` with the literal `t`.
-pub fn with(j: u64, t: u32) -> u64
-    requires { ⌜ t < 64 ⌝ }
-    ensures { λ r. ⌜ r ≡ put t j ⌝ }
-{
-    j | (1 << t)
-}
-
-// The lowest literal of `s`.
-pub fn lowest(s: u64) -> u32
-    ensures { λ r. ⌜ r ≡ trailingZeros 64 s ⌝ }
-{
-    u64::trailing_zeros(s)
 }

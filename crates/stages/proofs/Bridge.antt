@@ -14,9 +14,9 @@ use Rattle.sets.proofs.Lists.{in-flatMap, flatMap-in, map-in}
 use Rattle.sets.proofs.Rising.{rising-ext}
 use Rattle.sets.specs.Lists.{_∈_, Each, Rising}
 use Rattle.sets.specs.Words.{inside, put, mask}
-use Rattle.rising.proofs.Literals.{lit-out, put-put}
+use Rattle.literals.proofs.Literals.{lit-out, put-put}
 use Rattle.rising.proofs.RisingSets.{in-addAll, addAll-in, addAll-rising}
-use Rattle.rising.specs.Literals.{literals}
+use Rattle.literals.specs.Literals.{literals}
 use Rattle.operator.specs.Operator.{WordRule, choices, next, stage}
 use Rattle.stages.specs.Run.{latestRest}
 

@@ -14,7 +14,7 @@ use Rattle.sets.proofs.Tests.{T-and-l, T?, T-and, T-and-r, T-true, true-T}
 use Rattle.sets.specs.Lists.{_∈_, Some, sift, anyOf, Each}
 use Rattle.sets.specs.Words.{inside, mask}
 use Rattle.stages.proofs.Bridge.{Corresponds, stage-to, stage-of}
-use Rattle.rising.proofs.Literals.{lit-in, lit-out}
+use Rattle.literals.proofs.Literals.{lit-in, lit-out}
 use Rattle.stages.proofs.Run.{rests-at}
 use Rattle.minimal.specs.Minimal.{violates, satisfies, properIn, leastIn, minimals}
 use Rattle.operator.specs.Operator.{WordRule, next, stage}

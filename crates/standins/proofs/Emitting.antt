@@ -12,8 +12,8 @@ use mir.Val.{Fits}
 use native.Mathlib.Nat.{one-mul}
 use native.Mathlib.Omega.{arith}
 use Rattle.sets.specs.Words.{mask}
-use Rattle.rising.proofs.Literals.{literals-few}
-use Rattle.rising.specs.Literals.{literals, low}
+use Rattle.literals.proofs.Literals.{literals-few}
+use Rattle.literals.specs.Literals.{literals, low}
 use Rattle.operator.specs.Operator.{WordRule}
 use Rattle.emission.specs.Emit.{Emits, Places}
 use Rattle.emission.proofs.Emit.{emits-none, emits-as, room-one, room-as, room-first, room-then, emits-then, Emitting}

@@ -7,8 +7,8 @@ use mathlib.Core.Path.{_≡_, sym, ap, _∙_}
 use mir.Syntax.{w64}
 use mir.Val.{Fits}
 use native.Mathlib.Omega.{arith}
-use Rattle.rising.proofs.Literals.{low-less, lowest-small, literals-low, literals-none}
-use Rattle.rising.specs.Literals.{literals, low}
+use Rattle.literals.proofs.Literals.{low-less, lowest-small, literals-low, literals-none}
+use Rattle.literals.specs.Literals.{literals, low}
 use Rattle.operator.specs.Operator.{WordRule}
 use Rattle.transform.specs.Transform.{Stand, numbered}
 use Rattle.emission.specs.Emit.{Emits, Places}

@@ -4,7 +4,7 @@ ghost use mathlib.Core.List.{[], _∷_, _++_};
 ghost use Prim.Native.Nat.{_+_, _≤_, _<_};
 ghost use lib.ListN.{length};
 ghost use Rattle.sets.specs.Words.{mask};
-ghost use Rattle.rising.specs.Literals.{literals};
+ghost use Rattle.literals.specs.Literals.{literals};
 ghost use Rattle.transform.specs.Transform.{clauseD};
 ghost use Rattle.emission.specs.Emit.{Emits, Places};
 ghost use Rattle.standins.specs.Parts.{forEach, oneB, oneC, eachC, eachD};
@@ -42,7 +42,7 @@ fn emit_b(head: u64, s: u32, hs: &mut [u64], bs: &mut [u64], at: usize) -> usize
     let mut p = s;
     let mut n = at;
     while rest != 0 {
-        n = push_b(rising::lowest(rest), p, hs, bs, n);
+        n = push_b(literals::lowest(rest), p, hs, bs, n);
         rest = rest & (rest - 1);
         p += 1;
     }
@@ -65,7 +65,7 @@ fn emit_c_one(a: u32, naf: u64, hs: &mut [u64], bs: &mut [u64], at: usize) -> us
     let mut rest = naf;
     let mut n = at;
     while rest != 0 {
-        n = push_c(a, rising::lowest(rest), hs, bs, n);
+        n = push_c(a, literals::lowest(rest), hs, bs, n);
         rest = rest & (rest - 1);
     }
     n
@@ -107,7 +107,7 @@ fn emit_d_one(t: u32, p: u32, head: u64, s: u32, hs: &mut [u64], bs: &mut [u64],
     let mut q = s;
     let mut n = at;
     while rest != 0 {
-        n = push_d(t, p, rising::lowest(rest), q, hs, bs, n);
+        n = push_d(t, p, literals::lowest(rest), q, hs, bs, n);
         rest = rest & (rest - 1);
         q += 1;
     }
@@ -123,7 +123,7 @@ fn emit_d(head: u64, s: u32, hs: &mut [u64], bs: &mut [u64], at: usize) -> usize
     let mut p = s;
     let mut n = at;
     while rest != 0 {
-        n = emit_d_one(rising::lowest(rest), p, head, s, hs, bs, n);
+        n = emit_d_one(literals::lowest(rest), p, head, s, hs, bs, n);
         rest = rest & (rest - 1);
         p += 1;
     }

@@ -10,7 +10,7 @@ use Rattle.program.specs.Clauses.{Clause}
 use Rattle.program.specs.Values.{wordOf, clauseOfValues, wordBy, bitsOf}
 use Rattle.semantics.specs.Books.{Book, books, clausesOf, modelsOf}
 use Rattle.rising.specs.RisingSets.{insertInto, addAll}
-use Rattle.rising.specs.Literals.{bitsFrom}
+use Rattle.literals.specs.Literals.{bitsFrom}
 use Rattle.operator.specs.Operator.{WordRule, choices, next, stage}
 use Rattle.stages.specs.Run.{resting, ending, finalStage}
 use Rattle.minimal.specs.Minimal.{minimals}

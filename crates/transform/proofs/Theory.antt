@@ -24,9 +24,9 @@ use Rattle.sets.proofs.Rising.{rising-ext, sift-rising, below-rising}
 use Rattle.sets.proofs.Tests.{T?}
 use Rattle.sets.specs.Lists.{_∈_, Each, below, Rising}
 use Rattle.sets.specs.Words.{bit, mask}
-use Rattle.rising.proofs.Literals.{lit-in, lit-out, bits-rising}
+use Rattle.literals.proofs.Literals.{lit-in, lit-out, bits-rising}
 use Rattle.stages.proofs.Minimal.{wordRule}
-use Rattle.rising.specs.Literals.{literals}
+use Rattle.literals.specs.Literals.{literals}
 use Rattle.operator.specs.Operator.{WordRule}
 use Rattle.transform.specs.Transform.{Stand, numbered, rule, clauseA, clauseB, clauseC, clauseD, rewritten, becomes, standIns, kappaFrom, allStandIns, members}
 use Rattle.epistemic.specs.Transform as theory

@@ -6,7 +6,7 @@ use mathlib.Core.Bool.{cond}
 use mathlib.Core.List.{List, [], _∷_, _++_, map, flatMap}
 use Rattle.program.specs.Clauses.{Clause}
 use Rattle.sets.specs.Words.{mask}
-use Rattle.rising.specs.Literals.{literals}
+use Rattle.literals.specs.Literals.{literals}
 use Rattle.operator.specs.Operator.{WordRule}
 
 -- a head literal and the place of its stand-in

@@ -16,8 +16,8 @@ use Rattle.program.specs.declared.Program.{Program}
 use Rattle.program.specs.Clauses.{Clause, clauseOf, clauseAt, rows, clauses}
 use Rattle.program.specs.Valid.{valid}
 use Rattle.program.proofs.Validity.{valid-names, valid-clauses}
-use Rattle.rising.specs.Literals.{literals}
-use Rattle.rising.proofs.Literals.{literals-length}
+use Rattle.literals.specs.Literals.{literals}
+use Rattle.literals.proofs.Literals.{literals-length}
 use Rattle.transform.specs.Transform.{standIns, allStandIns, members}
 use Rattle.vocabulary.specs.Vocabulary.{literalsOf, vocabulary}
 

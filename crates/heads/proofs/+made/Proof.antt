@@ -9,7 +9,7 @@ use Rattle.heads.proofs.made.Kinds as made-kinds
 use Rattle.heads.proofs.+made.Lts-made as lts
 use Rattle.heads.proofs.less.Reads as less-reads
 use Rattle.heads.proofs.pick.Reads as pick-reads
-use Rattle.rising.proofs.with.Reads as with-reads
+use Rattle.literals.proofs.with.Reads as with-reads
 use Rattle.heads.proofs.+made.{statement}
 use Rattle.heads.proofs.+made.Tie.{close}
 

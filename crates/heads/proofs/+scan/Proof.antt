@@ -1,11 +1,11 @@
 -- `heads::scan` meets its contract: it calls itself with fewer free literals, and each way to return is a law. Assumes nothing.
 use Prim.Native.Nat.{ℕ, _<_}
 use native.Mathlib.Omega.{arith}
+use borrow.Author.Needs.{needs}
 use borrow.Fn.Kinds.{In}
 use borrow.Fn.PlainCycle.{Measures, is, falls, and}
 use Rattle.sets.proofs.Branches.{rest-less}
-use Rattle.heads.proofs.Scanning.{scan-rises}
-use Rattle.heads.proofs.Rules.{scans}
+use Rattle.heads.proofs.Scanning.{scan-rises, scan-infeasible, scan-one, scan-over, scan-both}
 use Rattle.heads.proofs.scan.Reads as scan
 use Rattle.heads.proofs.scan.Kinds as scan-kinds
 use Rattle.heads.proofs.+scan.Lts-scan as lts
@@ -37,19 +37,19 @@ pub +scan-spec : {M : Type 1} → statement M
 )
     (at t)
     scan.Post
-    (λ c. search scans)
-    (λ c. search scans)
-    (λ c. search scans)
-    (λ c. search scans)
-    (λ c. search scans)
-    (λ c. search scans)
-    (λ c. search scans)
+    (λ c. search needs)
+    (λ c. search scan-infeasible)
+    (λ c. search needs)
+    (λ c. search needs)
+    (λ c. search scan-one)
+    (λ c. search needs)
+    (λ c. search needs)
     (λ c κs.
     let e = c .before .before in
     let s = e .before .before .before .before .before .before in
     (omega (arith, s .pre .0, rest-less (s .args .free) (e .highest .result) (e .highest .ensures)), s .pre .1))
-    (λ c. search scans)
-    (λ c. search scans)
+    (λ c. search needs)
+    (λ c. search scan-over)
     (λ c κs.
     let g = c .before .before .before .before .before in
     let e = g .before .before .before in
@@ -59,5 +59,5 @@ pub +scan-spec : {M : Type 1} → statement M
       omega (arith, s .pre .0, rest-less (s .args .free) (e .highest .result) (e .highest .ensures)),
       (p .0, long, scan-rises _ _ _ _ _ _ (e .highest .ensures) (p .2) (p .1) _ _ (g .scan .ensures) long),
     ))
-    (λ c. search scans)
-    (λ c. search scans)
+    (λ c. search needs)
+    (λ c. search scan-both)

@@ -1,7 +1,7 @@
 -- `heads::offered` meets its contract: the literals before `k`, joined with those from `k` on, are all. Assumes nothing.
+use borrow.Author.Needs.{needs}
 use Prim.Native.Nat.{_-_}
-use Rattle.heads.proofs.Loops.{Joining}
-use Rattle.heads.proofs.Rules.{loops}
+use Rattle.heads.proofs.Loops.{Joining, join-done, join-start, join-step}
 use Rattle.heads.proofs.offered.Statement.{statement}
 use Rattle.heads.proofs.offered.Tie as tie
 
@@ -12,5 +12,5 @@ abbrev μ-loop : tie.MeasureT-loop
 μ-loop wide n all₀ k₀ all k = n - k
 
 pub offered-spec : {M : Type 1} → statement M
-offered-spec = tie.close (tie.spec
-    Inv-loop μ-loop (λ c. search loops) (λ c. search loops) (λ c. search loops) (λ c. search loops) (λ c. search loops) (λ c. search loops) (λ c. search loops))
+offered-spec = tie.close (tie.spec Inv-loop μ-loop (λ c. search join-start) (λ c. search needs) (λ c. search needs) (λ c. search needs)
+    (λ c. search needs) (λ c. search join-step) (λ c. search join-done))

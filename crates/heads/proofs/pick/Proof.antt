@@ -4,4 +4,5 @@ use Rattle.heads.proofs.pick.Statement.{statement}
 use Rattle.heads.proofs.pick.Tie as tie
 
 pub pick-spec : {M : Type 1} → statement M
-pick-spec = tie.close (tie.spec (λ c. search words) (λ c. search words) (λ c. search words) (λ c. search words) (λ c. search words) (λ c. search words))
+pick-spec = tie.close (tie.spec (λ c. search words) (λ c. search words) (λ c. search words) (λ c. search words) (λ c. search words)
+    (λ c. search words))

@@ -14,8 +14,11 @@ Inv-loop list kept₀ n₀ p₀ kept n p = Sifting (leastIn list) list kept₀ k
 abbrev μ-loop : tie.MeasureT-loop
 μ-loop list kept₀ n₀ p₀ kept n p = length list - p
 
+loop-again : tie.Need-loop-again Inv-loop μ-loop
+loop-again c = search (sifting-keep, via)
+
 pub keep-minimal-spec : {M : Type 1} → statement M
 keep-minimal-spec = tie.close (tie.spec Inv-loop μ-loop (λ c. search sifting-start) (λ c. search needs) (λ c. search needs) (λ c. search needs)
     (λ c. search needs) (λ c. search needs) (λ c. search needs) (λ c. search needs) (λ c. search needs) (λ c. search needs) (λ c. search needs)
-    (λ c. search (sifting-keep, via)) (λ c. search needs) (λ c. search needs) (λ c. search (sifting-skip, via)) (λ c. search needs)
+    loop-again (λ c. search needs) (λ c. search needs) (λ c. search (sifting-skip, via)) (λ c. search needs)
     (λ c. search sifting-done))

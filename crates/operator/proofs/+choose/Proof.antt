@@ -1,9 +1,9 @@
 -- `operator::choose` meets its contract: it calls itself at the next clause, and each way to go on is a law. Assumes nothing.
 use Prim.Native.Nat.{ℕ, _-_, _<_}
 use mathlib.Core.Path.{refl}
-use Rattle.sets.proofs.Tests.{via-true}
+use Rattle.sets.proofs.Tests.{via-true, via-false}
 use Rattle.operator.specs.Operator.{ruleAt}
-use Rattle.operator.proofs.Choosing.{choosing, Following, follow-start, follow-step}
+use Rattle.operator.proofs.Choosing.{choosing, Following, at-end, passed, aside-room, put-aside, follow-start, follow-step, follow-over, follow-done}
 use borrow.Fn.Kinds.{In}
 use borrow.Fn.PlainCycle.{Measures, is, falls, and}
 use Rattle.operator.proofs.choose.Reads as choose
@@ -11,9 +11,9 @@ use Rattle.operator.proofs.choose.Kinds as choose-kinds
 use Rattle.operator.proofs.+choose.Lts-choose as lts
 use Rattle.heads.proofs.combine.Reads as combine-reads
 use Rattle.operator.proofs.sets_aside.Reads as sets-aside-reads
-use Rattle.rising.proofs.lowest.Reads as lowest-reads
-use Rattle.rising.proofs.subset.Reads as subset-reads
-use Rattle.rising.proofs.with.Reads as with-reads
+use Rattle.literals.proofs.lowest.Reads as lowest-reads
+use Rattle.literals.proofs.subset.Reads as subset-reads
+use Rattle.literals.proofs.with.Reads as with-reads
 use Rattle.operator.proofs.+choose.{statement}
 use Rattle.operator.proofs.+choose.Tie.{close}
 
@@ -53,6 +53,14 @@ pub +choose-spec : {M : Type 1} → statement M
     μ-loop
     (λ c. search choosing)
     (λ c. search choosing)
+    (λ c. search at-end)
+    (λ c. search choosing)
+    (λ c. search choosing)
+    (λ c. search choosing)
+    (λ c. search choosing)
+    (λ c. search choosing)
+    (λ c. search choosing)
+    (λ c. search (passed, via-false))
     (λ c. search choosing)
     (λ c. search choosing)
     (λ c. search choosing)
@@ -62,22 +70,14 @@ pub +choose-spec : {M : Type 1} → statement M
     (λ c. search choosing)
     (λ c. search choosing)
     (λ c. search choosing)
-    (λ c. search choosing)
-    (λ c. search choosing)
-    (λ c. search choosing)
-    (λ c. search choosing)
-    (λ c. search choosing)
-    (λ c. search choosing)
-    (λ c. search choosing)
-    (λ c. search choosing)
-    (λ c. search choosing)
+    (λ c. search (put-aside, via-true, aside-room))
     (λ c.
     let at-head = c .before .before in
     let at-fires = at-head .before in
     follow-start _ _ _ _ _ _ _ _ _ (search choosing) (search choosing) _ refl
     (via-true (at-fires .before .subset .ensures) (at-fires .if2 .left)) (search choosing) (search choosing) (at-head .shared-slice-known4 .given _))
     (λ c. search choosing)
-    (λ c. search choosing)
+    (λ c. search follow-over)
     (λ c. search choosing)
     (λ c. search choosing)
     (λ c. search choosing)
@@ -91,4 +91,4 @@ pub +choose-spec : {M : Type 1} → statement M
     let at-loop = at-literal .before .before .before in
     follow-step _ _ _ _ _ _ _ _ _ _ _ _ _ (at-loop .loop .inv) _ _ _ _ _ (search choosing) (search choosing) (at-literal .lowest .ensures) (search choosing) (at-call .choose3 .ensures))
     (λ c. search choosing)
-    (λ c. search choosing)
+    (λ c. search follow-done)

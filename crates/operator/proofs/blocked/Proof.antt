@@ -1,8 +1,9 @@
 -- `operator::blocked` meets its contract: no clause before `k` is a constraint that bars, by the laws of a loop over a layout. Assumes nothing.
+use borrow.Author.Needs.{needs}
 use Prim.Native.Nat.{_-_}
 use Rattle.operator.specs.Operator.{ruleAt, bars}
-use Rattle.sets.proofs.Lists.{Lacks}
-use Rattle.operator.proofs.Stepping.{stepping}
+use Rattle.sets.proofs.Lists.{Lacks, lacks-hit, lacks-more, lacks-none, lacks-start}
+use Rattle.sets.proofs.Tests.{via}
 use Rattle.operator.proofs.blocked.Statement.{statement}
 use Rattle.operator.proofs.blocked.Tie as tie
 
@@ -13,6 +14,6 @@ abbrev μ-loop : tie.MeasureT-loop
 μ-loop heads bodies count i k₀ k = count - k
 
 pub blocked-spec : {M : Type 1} → statement M
-blocked-spec = tie.close (tie.spec
-    Inv-loop μ-loop (λ c. search stepping) (λ c. search stepping) (λ c. search stepping) (λ c. search stepping) (λ c. search stepping) (λ c. search stepping)
-    (λ c. search stepping) (λ c. search stepping) (λ c. search stepping) (λ c. search stepping) (λ c. search stepping))
+blocked-spec = tie.close (tie.spec Inv-loop μ-loop (λ c. search lacks-start) (λ c. search needs) (λ c. search needs) (λ c. search needs)
+    (λ c. search needs) (λ c. search needs) (λ c. search (lacks-hit, via)) (λ c. search needs) (λ c. search needs) (λ c. search (lacks-more, via))
+    (λ c. search lacks-none))

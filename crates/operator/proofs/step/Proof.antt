@@ -1,9 +1,9 @@
 -- `operator::step` meets its contract: the members from `p` on have still to give. Assumes nothing.
+use borrow.Author.Needs.{needs}
 use Prim.Native.Nat.{_-_}
 use Rattle.sets.specs.Lists.{tabulate}
 use Rattle.operator.specs.Operator.{ruleAt}
-use Rattle.operator.proofs.Stepping.{Stepping}
-use Rattle.operator.proofs.Stepping.{stepping}
+use Rattle.operator.proofs.Stepping.{Stepping, step-done, step-long, step-next, step-over, step-rises, step-start}
 use Rattle.operator.proofs.step.Statement.{statement}
 use Rattle.operator.proofs.step.Tie as tie
 
@@ -13,7 +13,10 @@ Inv-loop heads bodies count stage members after₀ n₀ p₀ after n p = Steppin
 abbrev μ-loop : tie.MeasureT-loop
 μ-loop heads bodies count stage members after₀ n₀ p₀ after n p = members - p
 
+loop-again : tie.Need-loop-again Inv-loop μ-loop
+loop-again c = search step-next
+
 pub step-spec : {M : Type 1} → statement M
-step-spec = tie.close (tie.spec
-    Inv-loop μ-loop (λ c. search stepping) (λ c. search stepping) (λ c. search stepping) (λ c. search stepping) (λ c. search stepping) (λ c. search stepping)
-    (λ c. search stepping) (λ c. search stepping) (λ c. search stepping) (λ c. search stepping) (λ c. search stepping))
+step-spec = tie.close (tie.spec Inv-loop μ-loop (λ c. search step-start) (λ c. search step-long) (λ c. search step-over) (λ c. search needs)
+    (λ c. search needs) (λ c. search (step-rises, needs)) (λ c. search needs) (λ c. search needs) loop-again (λ c. search step-long)
+    (λ c. search step-done))

@@ -11,7 +11,10 @@ Inv-loop words count models₀ p₀ models p = Writing words count models₀ mod
 abbrev μ-loop : tie.MeasureT-loop
 μ-loop words count models₀ p₀ models p = count - p
 
+loop-again : tie.Need-loop-again Inv-loop μ-loop
+loop-again c = search writing-next
+
 pub write-models-spec : {M : Type 1} → statement M
 write-models-spec = tie.close (tie.spec Inv-loop μ-loop (λ c. search writing-start) (λ c. search needs) (λ c. search writing-full) (λ c. search needs)
     (λ c. search needs) (λ c. search writing-small) (λ c. search needs) (λ c. search writing-there) (λ c. search needs) (λ c. search needs)
-    (λ c. search writing-next) (λ c. search needs) (λ c. search writing-done))
+    loop-again (λ c. search needs) (λ c. search writing-done))

@@ -3,7 +3,7 @@ use borrow.Author.Needs.{needs}
 use Rattle.standins.specs.Parts.{oneB}
 use Rattle.standins.proofs.Walk.{Walk, walk-bodies, walk-done, walk-heads, walk-literal, walk-place, walk-start, walk-step}
 use Rattle.standins.proofs.Emitting.{b-room}
-use Rattle.rising.proofs.Literals.{low-less}
+use Rattle.literals.proofs.Literals.{low-less}
 use Rattle.standins.proofs.emit_b.Statement.{statement}
 use Rattle.standins.proofs.emit_b.Tie as tie
 

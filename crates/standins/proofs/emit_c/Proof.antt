@@ -3,7 +3,7 @@ use borrow.Author.Needs.{needs}
 use Rattle.standins.specs.Parts.{eachC}
 use Rattle.standins.proofs.Walk.{Walk, walk-bodies, walk-done, walk-heads, walk-place, walk-start}
 use Rattle.standins.proofs.Emitting.{c-room, c-step}
-use Rattle.rising.proofs.Literals.{low-less}
+use Rattle.literals.proofs.Literals.{low-less}
 use Rattle.standins.proofs.emit_c.Statement.{statement}
 use Rattle.standins.proofs.emit_c.Tie as tie
 

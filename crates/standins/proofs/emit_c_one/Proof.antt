@@ -3,7 +3,7 @@ use borrow.Author.Needs.{needs}
 use Rattle.standins.specs.Parts.{oneC}
 use Rattle.standins.proofs.Walk.{Walk, walk-bodies, walk-done, walk-heads, walk-literal}
 use Rattle.standins.proofs.Emitting.{run-room, run-start, run-step}
-use Rattle.rising.proofs.Literals.{low-less}
+use Rattle.literals.proofs.Literals.{low-less}
 use Rattle.standins.proofs.emit_c_one.Statement.{statement}
 use Rattle.standins.proofs.emit_c_one.Tie as tie
 

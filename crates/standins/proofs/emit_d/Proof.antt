@@ -3,7 +3,7 @@ use borrow.Author.Needs.{needs}
 use Rattle.standins.specs.Parts.{eachD}
 use Rattle.standins.proofs.Walk.{Walk, walk-bodies, walk-done, walk-heads, walk-literal, walk-place, walk-start}
 use Rattle.standins.proofs.Emitting.{d-room, d-step}
-use Rattle.rising.proofs.Literals.{low-less}
+use Rattle.literals.proofs.Literals.{low-less}
 use Rattle.standins.proofs.emit_d.Statement.{statement}
 use Rattle.standins.proofs.emit_d.Tie as tie
 

@@ -3,7 +3,7 @@ use borrow.Author.Needs.{needs}
 use Rattle.transform.specs.Transform.{clauseD}
 use Rattle.standins.proofs.Walk.{Walk, walk-bodies, walk-done, walk-heads, walk-place, walk-start, walk-step}
 use Rattle.standins.proofs.Emitting.{pair-room}
-use Rattle.rising.proofs.Literals.{low-less}
+use Rattle.literals.proofs.Literals.{low-less}
 use Rattle.standins.proofs.emit_d_one.Statement.{statement}
 use Rattle.standins.proofs.emit_d_one.Tie as tie
 

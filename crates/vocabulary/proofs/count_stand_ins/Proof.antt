@@ -12,7 +12,10 @@ Inv-loop heads bodies nafs count n₀ k₀ n k = Tally (clauseAt heads bodies na
 abbrev μ-loop : tie.MeasureT-loop
 μ-loop heads bodies nafs count n₀ k₀ n k = count - k
 
+loop-again : tie.Need-loop-again Inv-loop μ-loop
+loop-again c = search tally-step
+
 pub count-stand-ins-spec : {M : Type 1} → statement M
 count-stand-ins-spec = tie.close (tie.spec Inv-loop μ-loop (λ c. search tally-start) (λ c. search needs) (λ c. search needs) (λ c. search needs)
     (λ c. search needs) (λ c. search needs) (λ c. search needs) (λ c. search needs) (λ c. search (tally-few, needs)) (λ c. search needs)
-    (λ c. search needs) (λ c. search tally-step) (λ c. search (tally-done, tally-few)))
+    (λ c. search needs) loop-again (λ c. search (tally-done, tally-few)))

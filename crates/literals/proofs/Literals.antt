@@ -14,7 +14,7 @@ use native.Mathlib.Omega.{arith}
 use Rattle.sets.proofs.Digits.{bit-first, bit-suc, bit-or, bit-ext}
 use Rattle.sets.specs.Lists.{_∈_, Each, Rising}
 use Rattle.sets.specs.Words.{bit, put}
-use Rattle.rising.specs.Literals.{here, bitsFrom, literals, low}
+use Rattle.literals.specs.Literals.{here, bitsFrom, literals, low}
 
 -- ---- members
 

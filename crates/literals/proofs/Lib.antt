@@ -1,0 +1,2 @@
+-- Laws of the literals of a word.
+pub mod Literals

@@ -1,0 +1,2 @@
+-- The literals of a word; the laws stand in proofs/.
+pub mod Literals

@@ -1,8 +1,0 @@
--- `rising::with` meets its contract: a shifted one is a power of two. Assumes nothing.
-use borrow.Author.Needs.{needs}
-use Rattle.rising.proofs.Inserting.{inserting}
-use Rattle.rising.proofs.with.Statement.{statement}
-use Rattle.rising.proofs.with.Tie as tie
-
-pub with-spec : {M : Type 1} → statement M
-with-spec = tie.close (tie.spec (λ c. search needs) (λ c. search inserting))
