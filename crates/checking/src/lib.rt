@@ -1,5 +1,4 @@
 // What `check` says of a table that was read, at the front of a slice with room for it.
-ghost use mathlib.Core.Path.{_≡_};
 ghost use Prim.Native.Nat.{_≤_};
 ghost use lib.ListN.{length};
 ghost use Rattle.lists.specs.Bytes.{Wrote};

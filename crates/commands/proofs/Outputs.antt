@@ -3,7 +3,7 @@ use mathlib.Core.Path.{_≡_, refl}
 use mathlib.Core.List.{List}
 use Prim.Native.Nat.{ℕ}
 use Rattle.text.specs.Refusals.{refusal}
-use Rattle.text.specs.Reading.{readOf, IsAccepted}
+use Rattle.text.specs.Reading.{IsAccepted}
 use Rattle.text.proofs.RoundTrip.{refused, written-back}
 use Rattle.wording.specs.Printed.{refusedLine}
 use Rattle.printing.specs.Texts.{unlessRefused, allowance}

@@ -1,5 +1,4 @@
 // What is printed on a book: one call for all words of the command line, and the report.
-ghost use mathlib.Core.Path.{_≡_};
 ghost use Rattle.lists.specs.Bytes.{Wrote};
 ghost use Rattle.printing.specs.Ready.{Ready};
 ghost use Rattle.commands.specs.Printing.{Prints};

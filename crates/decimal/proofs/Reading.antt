@@ -15,7 +15,7 @@ use Rattle.lists.specs.Bytes.{Wrote}
 use Rattle.lists.proofs.Writing.{Put, put-byte, put-done, put-long, wrote-put}
 use Rattle.decimal.specs.declared.Parsed.the-variants.{Number, Nothing}
 use Rattle.decimal.specs.Decimal.{decimal, parsedOf, digitOf, goesOn}
-use Rattle.decimal.proofs.Laws.{decimal-one, decimal-more, by-tens, length-more, decimal-long, decimal-short, decimal-injective, number-hit, number-none}
+use Rattle.decimal.proofs.Laws.{decimal-one, decimal-more, by-tens, length-more, decimal-long, decimal-injective, number-hit, number-none}
 
 -- ---- digits
 pub digit-low : (x : ℕ) → x < 48 → 10 ≡ digitOf x

@@ -1,10 +1,8 @@
 -- Decimal numbers of any size. Assumes nothing.
-use mathlib.Core.Path.{_≡_}
 use mathlib.Core.Bool.{Bool, cond, _&&_}
 use mathlib.Core.List.{List, [], _∷_, _++_}
-use Prim.Native.Nat.{ℕ, zero, suc, _+_, _-_, _*_, _/_, _%_, _≤_}
+use Prim.Native.Nat.{ℕ, zero, suc, _+_, _-_, _*_, _/_, _%_}
 use lib.Dec.{leb, ltb}
-use lib.ListN.{length}
 use Rattle.sets.specs.Least.{least}
 use Rattle.lists.specs.Bytes.{same}
 use Rattle.decimal.specs.declared.Parsed.{Parsed}

@@ -1,5 +1,4 @@
 -- Positive programs over any atoms: models, minimal models, the operator of Definition 2.7 and the stages of Definition 2.9. Assumes nothing.
-use mathlib.Core.Path.{_≡_}
 use mathlib.Core.Logic.{_↔_}
 use mathlib.Core.Bool.{Bool, true, false, cond, _&&_, _||_}
 use mathlib.Core.List.{List, [], _∷_, map, flatMap}

@@ -7,7 +7,6 @@ use Rattle.program.specs.declared.Outcome.{Outcome}
 use Rattle.program.specs.Refusals.{ofOutcome}
 use Rattle.wording.specs.Printed.{outcomeWord, numbered}
 use Rattle.listings.specs.Listing.{listing}
-use Rattle.fixpoint.specs.declared.FixpointAnswer.{FixpointAnswer}
 use Rattle.fixpoint.specs.Answer as fixed
 use Rattle.printing.specs.Texts.{unlessRefused}
 

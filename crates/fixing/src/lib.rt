@@ -1,5 +1,4 @@
 // What `fixpoint` says of a table that was read, at the front of a slice with room for it.
-ghost use mathlib.Core.Path.{_≡_};
 ghost use mathlib.Core.List.{_++_};
 ghost use Rattle.lists.specs.Bytes.{Wrote};
 ghost use Rattle.wording.specs.Printed.{outcomeWord, numbered};

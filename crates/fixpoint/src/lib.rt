@@ -1,7 +1,7 @@
 // The fixpoint of the epistemic transform: stages formed on words, their canonical minimal models, the literal parts of these.
 ghost use mathlib.Core.Path.{_≡_};
 ghost use mathlib.Core.Bool.{true};
-ghost use Prim.Native.Nat.{_≤_, min};
+ghost use Prim.Native.Nat.{_≤_};
 ghost use lib.ListN.{length};
 ghost use Rattle.sets.specs.Lists.{tabulate};
 ghost use Rattle.program.specs.Valid.{valid};
@@ -15,7 +15,7 @@ use program::Program;
 const MOST_MEMBERS: u32 = 64;
 
 // The clauses that the transform of a table has at most: one for each of 64, and 1,056 for the stand-ins where the vocabulary has 64 members (proofs/Size).
-const MOST_CLAUSES: usize = 1120;
+const MOST_RULES: usize = 1120;
 
 // What a fixpoint answers; its outcome is never spent.
 pub struct FixpointAnswer {
@@ -46,15 +46,6 @@ fn refuse(number: u8) -> FixpointAnswer
         outcome: Outcome::Refused(number),
         written: 0,
     }
-}
-
-fn shorter(x: usize, y: usize) -> usize
-    ensures { λ r. ⌜ r ≡ min x y ⌝ }
-{
-    if x < y {
-        return x;
-    }
-    y
 }
 
 // Lists the models of a positive program whose m lowest members are the literals, with two working slices of one length.
@@ -92,7 +83,7 @@ fn list_models<'a>(
     requires { ⌜ (count ≤ length (now heads)) × (count ≤ length (now bodies)) × (m ≤ 32) ⌝ }
     ensures { λ r. ⌜ Answered m (tabulate (ruleAt (now (heads .entry)) (now (bodies .entry))) count) (roomOf (now (first .entry)) (now (second .entry))) (now (models .entry)) (now (models .exit)) r ⌝ }
 {
-    let room = shorter(first.len(), second.len());
+    let room = lists::least(first.len(), second.len());
     list_even(
         heads,
         bodies,
@@ -115,8 +106,8 @@ fn fix_table(
     ensures { λ r. ⌜ Answered (literalsOf p) (transformOf p) (roomOf (now (first .entry)) (now (second .entry))) (now (models .entry)) (now (models .exit)) r ⌝ }
 {
     let m = vocabulary::literal_count(p.atom_count);
-    let mut hs = [0u64; MOST_CLAUSES];
-    let mut bs = [0u64; MOST_CLAUSES];
+    let mut hs = [0u64; MOST_RULES];
+    let mut bs = [0u64; MOST_RULES];
     let n = rewriting::transform(
         m,
         &p.heads,

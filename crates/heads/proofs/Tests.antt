@@ -1,7 +1,7 @@
 -- A word less another, and the test of what lies between two words. Assumes nothing.
 use mathlib.Core.Path.{_≡_, sym, ap, _∙_, subst}
 use mathlib.Core.Bool.{Bool, true, false, not, _&&_}
-use Prim.Native.Nat.{ℕ, _-_}
+use Prim.Native.Nat.{ℕ}
 use lib.Dec.{T}
 use lib.Bits.{bitAnd, bitOr, or-zero-r}
 use borrow.Author.Tests.{eqb-true}

@@ -8,7 +8,6 @@ use lib.Seq.{take-length}
 use Rattle.sets.specs.Lists.{upFrom, tabulate}
 use Rattle.sets.proofs.Lists.{onward-start}
 use Rattle.program.specs.Names.{nameAt}
-use Rattle.program.specs.Values.{valueIn}
 use Rattle.decimal.specs.Decimal.{decimal}
 use Rattle.decimal.proofs.Laws.{decimal-short}
 use Rattle.text.specs.Lines.{namesLine, valuesLine}
@@ -43,8 +42,3 @@ pub values-most : (vs : List ℕ) (k : ℕ) → 1 ≤ length vs → ((i : ℕ) �
 values-most vs k h d =
     let e : vs ≡ tabulate (λ i. getD vs i 0) (length vs) = sym (take-length vs) ∙ firsts vs (length vs) (omega arith) in
     omega (arith, row-most (λ i. getD vs i 0) (length vs) k h d, ap (λ (l : List ℕ). length (valuesLine l)) e)
-
--- ---- a value of a word
-pub value-small : (w i : ℕ) → valueIn w i < 4
-unfolding valueIn
-value-small w i = omega arith

@@ -9,12 +9,13 @@ use Rattle.program.specs.declared.Program.{Program}
 use Rattle.program.specs.Names.{nameAt, namesOf}
 use Rattle.program.specs.Values.{valueIn, wordValues}
 use Rattle.text.specs.Lines.{namesLine, valuesLine}
-use Rattle.lines.proofs.Bounds.{names-most, row-most, value-small}
+use Rattle.program.proofs.Values.{value-lt}
+use Rattle.lines.proofs.Bounds.{names-most, row-most}
 use Rattle.listings.specs.Listing.{modelLines, listing}
 
 model-most : (w n : ℕ) → 1 ≤ n → n ≤ 12 → length (valuesLine (wordValues n w)) ≤ 24
 unfolding wordValues
-model-most w n h l = omega (arith, row-most (valueIn w) n 0 h (λ i k. omega (arith, value-small w i)))
+model-most w n h l = omega (arith, row-most (valueIn w) n 0 h (λ i k. omega (arith, value-lt w i)))
 
 pub models-most : (n : ℕ) (ws : List ℕ) → 1 ≤ n → n ≤ 12 → length (modelLines n ws) ≤ 24 * length ws
 unfolding modelLines flatMap

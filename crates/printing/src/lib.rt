@@ -1,5 +1,4 @@
 // What several words say of a table that was read, at the front of a slice with room for it: the line of a refusal, and the models; how much room and how long a list they have.
-ghost use mathlib.Core.Path.{_≡_};
 ghost use Prim.Native.Nat.{_≤_};
 ghost use lib.ListN.{length};
 ghost use Rattle.lists.specs.Bytes.{Wrote};

@@ -4,7 +4,6 @@ use Prim.Native.Nat.{ℕ}
 use Rattle.program.specs.declared.Program.{Program}
 use Rattle.wording.specs.Printed.{lastLine}
 use Rattle.listings.specs.Listing.{listing}
-use Rattle.tree.specs.declared.SearchAnswer.{SearchAnswer}
 use Rattle.tree.specs.Answer as searched
 
 -- ---- search LIMIT PLACES: "the names line, a line of values for each model, then outcome, models written, nodes visited"

@@ -1,5 +1,4 @@
 // What the words without numbers, `summary` and `write`, say of a table that was read, at the front of a slice with room for it.
-ghost use mathlib.Core.Path.{_≡_};
 ghost use Rattle.lists.specs.Bytes.{Wrote};
 ghost use Rattle.text.specs.Render.{render};
 ghost use Rattle.printing.specs.Ready.{Ready};

@@ -20,7 +20,7 @@ fn agree(list: &[u32; PLACES], words: &[u32], expected: Answer, found: Answer) -
 fn is_full(p: Program, words: &[u32]) -> bool {
     let mut list = [FREE; PLACES];
     let m = words.len();
-    let n = crate::at_most(m, PLACES);
+    let n = lists::least(m, PLACES);
     let found = asking::fixpoint(p, &mut list[START..n]);
     agree(
         &list,
@@ -34,7 +34,7 @@ fn is_full(p: Program, words: &[u32]) -> bool {
 pub fn tried(p: Program, words: &[u32]) -> Tried {
     let mut list = [FREE; PLACES];
     let m = words.len();
-    let n = crate::at_most(m, PLACES);
+    let n = lists::least(m, PLACES);
     let found = asking::fixpoint(p, &mut list[START..n]);
     if is_too_large(found.outcome) {
         if agree(&list, &[], answers::made(found.outcome, 0, 0), found) {

@@ -51,15 +51,6 @@ fn ask(family: Family, text: &[u8], words: &[u32]) -> Tried {
 // Where a part that is lent begins.
 const START: usize = 0;
 
-fn at_most(n: usize, most: usize) -> usize
-    ensures { λ r. ⌜ r ≤ most ⌝ }
-{
-    if most < n {
-        return most;
-    }
-    n
-}
-
 // ---- records
 fn word_of(n: u64) -> u32 {
     if 4_294_967_295 < n {

@@ -36,7 +36,7 @@ fn before_last(words: &[u32], atoms: usize) -> usize
 // Whether the search answers as expected with so many nodes and places, and lists the words.
 fn lists(p: Program, limit: u64, lent: usize, words: &[u32], expected: Answer) -> bool {
     let mut list = [FREE; PLACES];
-    let n = crate::at_most(lent, PLACES);
+    let n = lists::least(lent, PLACES);
     let found = asking::search(p, limit, &mut list[START..n]);
     saying::agree(answers::SEARCH, expected, found) && saying::holds(&list, words)
 }

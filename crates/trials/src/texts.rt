@@ -37,7 +37,7 @@ fn holds(out: &[u8; BYTES], text: &[u8]) -> bool {
 // Whether the writer answers so with so many bytes, and leaves the text in them.
 fn is_written(p: Program, lent: usize, written: Written, text: &[u8]) -> bool {
     let mut out = [FREE; BYTES];
-    let n = crate::at_most(lent, BYTES);
+    let n = lists::least(lent, BYTES);
     let found = asking::write(p, &mut out[START..n]);
     saying::agree(answers::WRITER, answers::of_written(written), found) && holds(&out, text)
 }

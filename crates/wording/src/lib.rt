@@ -1,5 +1,4 @@
 // A line of a word and of numbers behind it at the front of a lent slice: of an outcome, of a refusal.
-ghost use mathlib.Core.Path.{_≡_};
 ghost use mathlib.Core.List.{[], _∷_, _++_};
 ghost use Prim.Native.Nat.{_≤_};
 ghost use lib.ListN.{length, take};

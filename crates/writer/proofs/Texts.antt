@@ -1,7 +1,7 @@
 -- The text of a table: its clauses' lines as pieces, how long it is, and the writer's answers. Assumes nothing.
 use mathlib.Core.Path.{_≡_, ap, _∙_}
 use mathlib.Core.Bool.{true, false}
-use mathlib.Core.List.{List, map, flatMap}
+use mathlib.Core.List.{List, flatMap}
 use Prim.Native.Nat.{ℕ, _*_, _≤_, _<_}
 use native.Mathlib.Omega.{arith}
 use lib.ListN.{length, replicate, length-append, length-replicate}
@@ -11,8 +11,8 @@ use Rattle.sets.proofs.Lists.{map-upFrom}
 use Rattle.lists.specs.Bytes.{Wrote}
 use Rattle.program.specs.declared.Program.{Program}
 use Rattle.program.specs.Clauses.{Clause, clauseAt, rows}
-use Rattle.program.specs.Names.{nameAt, namesOf}
-use Rattle.program.specs.Values.{valueIn, clauseValue, clauseValues}
+use Rattle.program.specs.Names.{namesOf}
+use Rattle.program.specs.Values.{clauseValue, clauseValues}
 use Rattle.program.specs.Refusals.{lowest}
 use Rattle.program.specs.Valid.{valid}
 use Rattle.program.proofs.Validity.{valid-names, valid-clauses}
@@ -22,7 +22,8 @@ use Rattle.text.specs.Writing.{writeRefusal, answerOf, exitOf, Writes}
 use Rattle.text.specs.declared.Written.the-variants.{Refused, Length}
 use Rattle.lines.specs.Laying.{Room}
 use Rattle.lines.proofs.Laying.{laid, flat-laid}
-use Rattle.lines.proofs.Bounds.{laid-most, names-most, row-most, value-small}
+use Rattle.program.proofs.Values.{value-lt}
+use Rattle.lines.proofs.Bounds.{laid-most, names-most, row-most}
 
 -- ---- the lines of the clauses
 abbrev pub clauseLine : Program → ℕ → List ℕ
@@ -37,7 +38,7 @@ clauses-laid p =
 -- ---- how long the text is: a value has two digits
 clause-most : (c : Clause) (n : ℕ) → 1 ≤ n → length (valuesLine (clauseValues n c)) ≤ 3 * n
 unfolding clauseValues clauseValue
-clause-most c n h = row-most (clauseValue c) n 1 h (λ i l. omega (arith, value-small (c .head) i, value-small (c .body) i, value-small (c .naf) i))
+clause-most c n h = row-most (clauseValue c) n 1 h (λ i l. omega (arith, value-lt (c .head) i, value-lt (c .body) i, value-lt (c .naf) i))
 
 module _ (p : Program) (v : valid p ≡ true) where
   text-most : length (render p) ≤ 4096
