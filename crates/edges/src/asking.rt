@@ -1,5 +1,4 @@
 // The calls of the engine that more than one kind of record is put to.
-ghost use Prim.Native.Nat.{_≤_};
 use crate::saying;
 use answers::Answer;
 use answers::FREE;
@@ -12,28 +11,31 @@ pub const ROOM: usize = 65536;
 // Where a part that is lent begins.
 const START: usize = 0;
 
-fn room_of(n: usize) -> usize
-    ensures { λ r. ⌜ r ≤ 65536 ⌝ }
-{
-    if n < ROOM {
-        return n;
-    }
-    ROOM
-}
-
 pub fn table_of(text: &[u8]) -> Program {
     let read = reader::read_program(text);
     read.program
 }
 
-fn fixpoint(p: Program, list: &mut [u32], one: usize, other: usize) -> Answer {
-    let mut work = [0u64; ROOM];
-    let mut more_work = [0u64; ROOM];
-    let m = room_of(one);
-    let n = room_of(other);
-    let a = fixpoint::fixpoint(p, list, &mut work[START..m], &mut more_work[START..n]);
+// The fixpoint in so many words of each working slice, or in as many as there are.
+fn fixpoint_in(
+    p: Program,
+    list: &mut [u32],
+    one: usize,
+    other: usize,
+    first: &mut [u64],
+    second: &mut [u64],
+) -> Answer {
+    let m = lists::least(one, first.len());
+    let n = lists::least(other, second.len());
+    let a = fixpoint::fixpoint(p, list, &mut first[START..m], &mut second[START..n]);
     let outcome = a.outcome;
     answers::of_outcome(outcome, a.written as u64, 0)
+}
+
+fn fixpoint(p: Program, list: &mut [u32], one: usize, other: usize) -> Answer {
+    let mut first = [0u64; ROOM];
+    let mut second = [0u64; ROOM];
+    fixpoint_in(p, list, one, other, &mut first, &mut second)
 }
 
 // Whether the fixpoint answers as expected with so much room in each working slice; a refusal leaves the list as it was.

@@ -86,10 +86,19 @@ fn fill(path: &[u8], file: &mut [u8]) -> usize
 }
 
 // The largest file, the refusals, has 168,623 bytes.
-fn is_tried(path: &[u8], edge: Edge) -> bool {
+// How many records of the file agree, read into a slice that is lent for it.
+fn count_in(path: &[u8], edge: Edge, file: &mut [u8]) -> u64 {
+    let n = fill(path, file);
+    count_agreeing(edge, &file[..n])
+}
+
+fn count(path: &[u8], edge: Edge) -> u64 {
     let mut file = [0u8; 196608];
-    let n = fill(path, &mut file);
-    let agree = count_agreeing(edge, &file[..n]);
+    count_in(path, edge, &mut file)
+}
+
+fn is_tried(path: &[u8], edge: Edge) -> bool {
+    let agree = count(path, edge);
     saying::print(path);
     if agree == 0 {
         saying::print(b": stopped\n");
