@@ -12,7 +12,10 @@ Inv-loop heads bodies nafs table₀ i₀ table i = Packing heads bodies nafs i t
 abbrev μ-loop : tie.MeasureT-loop
 μ-loop heads bodies nafs table₀ i₀ table i = 64 - i
 
+loop-again : tie.Need-loop-again Inv-loop μ-loop
+loop-again c = search pack-more
+
 pub pack-spec : {M : Type 1} → statement M
 pack-spec = tie.close (tie.spec Inv-loop μ-loop (λ c. search pack-start) (λ c. search needs) (λ c. search needs) (λ c. search needs) (λ c. search needs)
     (λ c. search needs) (λ c. search needs) (λ c. search needs) (λ c. search needs) (λ c. search needs) (λ c. search needs) (λ c. search needs) (λ c. search needs)
-    (λ c. search needs) (λ c. search needs) (λ c. search needs) (λ c. search needs) (λ c. search pack-more) (λ c. search pack-done))
+    (λ c. search needs) (λ c. search needs) (λ c. search needs) (λ c. search needs) loop-again (λ c. search pack-done))

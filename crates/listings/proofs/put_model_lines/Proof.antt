@@ -14,9 +14,12 @@ Inv-loop out₀ models m n at₀ k₀ out at k = Laid (modelAt n models) m (mode
 abbrev μ-loop : tie.MeasureT-loop
 μ-loop out₀ models m n at₀ k₀ out at k = m - k
 
+loop-again : tie.Need-loop-again Inv-loop μ-loop
+loop-again c = search laid-more
+
 pub put-model-lines-spec : {M : Type 1} → statement M
 put-model-lines-spec =
     tie.close
     (tie.spec
     Inv-loop μ-loop (λ c. search (models-laid, laid-start, needs)) (λ c. search laid-from) (λ c. search laid-from) (λ c. search needs) (λ c. search needs) (λ c. search needs)
-    (λ c. search (laid-room, needs)) (λ c. search laid-fits) (λ c. search needs) (λ c. search needs) (λ c. search laid-more) (λ c. search needs) (λ c. search laid-done))
+    (λ c. search (laid-room, needs)) (λ c. search laid-fits) (λ c. search needs) (λ c. search needs) loop-again (λ c. search needs) (λ c. search laid-done))
