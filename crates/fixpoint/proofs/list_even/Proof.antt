@@ -4,7 +4,10 @@ use Rattle.fixpoint.proofs.Answering.{answered, first-fits, refused-cro
 use Rattle.fixpoint.proofs.list_even.Statement.{statement}
 use Rattle.fixpoint.proofs.list_even.Tie as tie
 
+returns : tie.Need-returns
+returns c = search refused-crowded
+
 pub list-even-spec : {M : Type 1} → statement M
-list-even-spec = tie.close (tie.spec (λ c. search needs) (λ c. search needs) (λ c. search needs) (λ c. search needs) (λ c. search refused-crowded)
+list-even-spec = tie.close (tie.spec (λ c. search needs) (λ c. search needs) (λ c. search needs) (λ c. search needs) returns
     (λ c. search (first-fits, second-fits, needs)) (λ c. search needs) (λ c. search needs) (λ c. search needs) (λ c. search needs)
     (λ c. search answered))
