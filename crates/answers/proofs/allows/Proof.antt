@@ -3,5 +3,8 @@ use borrow.Author.Needs.{needs}
 use Rattle.answers.proofs.allows.Statement.{statement}
 use Rattle.answers.proofs.allows.Tie as tie
 
+returns : tie.Need-returns
+returns c = search needs
+
 pub allows-spec : {M : Type 1} → statement M
-allows-spec = tie.close (tie.spec (λ c. search needs))
+allows-spec = tie.close (tie.spec returns)

@@ -11,7 +11,9 @@ Inv-loop list words k₀ k = Same words list k
 abbrev μ-loop : tie.MeasureT-loop
 μ-loop list words k₀ k = 4096 - k
 
+loop-again : tie.Need-loop-again Inv-loop μ-loop
+loop-again c = search same-more
+
 pub first-other-spec : {M : Type 1} → statement M
-first-other-spec =
-    tie.close (tie.spec Inv-loop μ-loop
-    (λ c. search same-start) (λ c. search needs) (λ c. search needs) (λ c. search other-found) (λ c. search needs) (λ c. search needs) (λ c. search same-more) (λ c. search none-other))
+first-other-spec = tie.close (tie.spec Inv-loop μ-loop (λ c. search same-start) (λ c. search needs) (λ c. search needs) (λ c. search other-found) (λ c. search needs)
+    (λ c. search needs) loop-again (λ c. search none-other))

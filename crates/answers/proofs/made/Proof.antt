@@ -3,5 +3,8 @@ use borrow.Author.Needs.{needs}
 use Rattle.answers.proofs.made.Statement.{statement}
 use Rattle.answers.proofs.made.Tie as tie
 
+returns : tie.Need-returns
+returns c = search needs
+
 pub made-spec : {M : Type 1} → statement M
-made-spec = tie.close (tie.spec (λ c. search needs))
+made-spec = tie.close (tie.spec returns)

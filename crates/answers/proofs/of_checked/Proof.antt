@@ -5,10 +5,16 @@ use Rattle.answers.proofs.Cases.{checked-case}
 use Rattle.answers.proofs.of_checked.Statement.{statement}
 use Rattle.answers.proofs.of_checked.Tie as tie
 
+returns-3 : tie.Need-returns-3
+unfolding ofChecked
+returns-3 c = search checked-case
+
+returns-4 : tie.Need-returns-4
+unfolding ofChecked
+returns-4 c = search checked-case
+
 pub of-checked-spec : {M : Type 1} → statement M
 unfolding ofChecked
-of-checked-spec =
-    tie.close (tie.spec
-    (λ c. search needs) (λ c. search needs) (λ c. search needs) (λ c. search needs) (λ c. search needs) (λ c. search needs)
-    (λ c. search needs) (λ c. search needs) (λ c. search needs) (λ c. search needs) (λ c. search needs) (λ c. search checked-case)
-    (λ c. search checked-case) (λ c. search checked-case) (λ c. search checked-case))
+of-checked-spec = tie.close (tie.spec (λ c. search needs) (λ c. search needs) (λ c. search needs) (λ c. search needs) (λ c. search needs) (λ c. search needs)
+    (λ c. search needs) (λ c. search needs) (λ c. search needs) (λ c. search needs) (λ c. search needs) (λ c. search checked-case) (λ c. search checked-case) returns-3
+    returns-4)

@@ -14,10 +14,10 @@ Inv-loop text from n broken₀ zeros₀ count₀ heads₀ bodies₀ nafs₀ at�
 abbrev μ-loop : tie.MeasureT-loop
 μ-loop text from n broken₀ zeros₀ count₀ heads₀ bodies₀ nafs₀ at₀ e₀ broken zeros count heads bodies nafs at e = length text - at
 
+loop-again : tie.Need-loop-again Inv-loop μ-loop
+loop-again c = search gather-more
+
 pub gather-spec : {M : Type 1} → statement M
-gather-spec =
-    tie.close
-    (tie.spec
-    Inv-loop μ-loop (λ c. search needs) (λ c. search gather-start) (λ c. search needs) (λ c. search needs) (λ c. search needs) (λ c. search needs) (λ c. search needs)
-    (λ c. search needs) (λ c. search gather-room) (λ c. search needs) (λ c. search gather-room) (λ c. search needs) (λ c. search gather-room) (λ c. search needs)
-    (λ c. search needs) (λ c. search needs) (λ c. search needs) (λ c. search gather-more) (λ c. search gather-done))
+gather-spec = tie.close (tie.spec Inv-loop μ-loop (λ c. search needs) (λ c. search gather-start) (λ c. search needs) (λ c. search needs) (λ c. search needs)
+    (λ c. search needs) (λ c. search needs) (λ c. search needs) (λ c. search gather-room) (λ c. search needs) (λ c. search gather-room) (λ c. search needs)
+    (λ c. search gather-room) (λ c. search needs) (λ c. search needs) (λ c. search needs) (λ c. search needs) loop-again (λ c. search gather-done))

@@ -3,5 +3,8 @@ use Rattle.decimal.proofs.Reading.{goes, over-bound}
 use Rattle.decimal.proofs.goes_on.Statement.{statement}
 use Rattle.decimal.proofs.goes_on.Tie as tie
 
+returns-2 : tie.Need-returns-2
+returns-2 c = search goes
+
 pub goes-on-spec : {M : Type 1} → statement M
-goes-on-spec = tie.close (tie.spec (λ c. search over-bound) (λ c. search goes))
+goes-on-spec = tie.close (tie.spec (λ c. search over-bound) returns-2)

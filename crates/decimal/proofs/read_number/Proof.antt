@@ -14,7 +14,10 @@ Inv-loop s bound v₀ i₀ v i = Parsing s bound i v
 abbrev μ-loop : tie.MeasureT-loop
 μ-loop s bound v₀ i₀ v i = length s - i
 
+returns-2 : tie.Need-returns-2 Inv-loop μ-loop
+returns-2 c = search parse-not
+
 pub read-number-spec : {M : Type 1} → statement M
-read-number-spec = tie.close (tie.spec Inv-loop μ-loop (λ c. search parse-empty) (λ c. search needs) (λ c. search needs) (λ c. search parse-not) (λ c. search parse-start)
-    (λ c. search needs) (λ c. search needs) (λ c. search needs) (λ c. search (parse-stop, via-false)) (λ c. search parse-tens-fit) (λ c. search parse-fits) (λ c. search needs)
-    (λ c. search needs) (λ c. search parse-more) (λ c. search parse-done))
+read-number-spec = tie.close (tie.spec Inv-loop μ-loop (λ c. search parse-empty) (λ c. search needs) (λ c. search needs) returns-2 (λ c. search parse-start)
+    (λ c. search needs) (λ c. search needs) (λ c. search needs) (λ c. search (parse-stop, via-false)) (λ c. search parse-tens-fit) (λ c. search parse-fits)
+    (λ c. search needs) (λ c. search needs) (λ c. search parse-more) (λ c. search parse-done))

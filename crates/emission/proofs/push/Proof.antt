@@ -4,6 +4,9 @@ use Rattle.emission.proofs.Emit.{emits-one}
 use Rattle.emission.proofs.push.Statement.{statement}
 use Rattle.emission.proofs.push.Tie as tie
 
+returns : tie.Need-returns
+returns c = search emits-one
+
 pub push-spec : {M : Type 1} → statement M
-push-spec = tie.close (tie.spec (λ c. search needs) (λ c. search needs) (λ c. search needs) (λ c. search needs) (λ c. search needs)
-    (λ c. search needs) (λ c. search needs) (λ c. search emits-one))
+push-spec = tie.close (tie.spec (λ c. search needs) (λ c. search needs) (λ c. search needs) (λ c. search needs) (λ c. search needs) (λ c. search needs)
+    (λ c. search needs) returns)

@@ -4,6 +4,9 @@ use Rattle.heads.proofs.Scanning.{infeasible-many, infeasible-missed, i
 use Rattle.heads.proofs.infeasible.Statement.{statement}
 use Rattle.heads.proofs.infeasible.Tie as tie
 
+returns : tie.Need-returns
+returns c = search infeasible-missed
+
 pub infeasible-spec : {M : Type 1} → statement M
-infeasible-spec = tie.close (tie.spec (λ c. search needs) (λ c. search infeasible-missed) (λ c. search needs) (λ c. search needs) (λ c. search needs)
-    (λ c. search infeasible-not) (λ c. search needs) (λ c. search needs) (λ c. search infeasible-many))
+infeasible-spec = tie.close (tie.spec (λ c. search needs) returns (λ c. search needs) (λ c. search needs) (λ c. search needs) (λ c. search infeasible-not)
+    (λ c. search needs) (λ c. search needs) (λ c. search infeasible-many))

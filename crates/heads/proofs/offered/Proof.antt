@@ -11,6 +11,9 @@ Inv-loop wide n all₀ k₀ all k = Joining wide n all k
 abbrev μ-loop : tie.MeasureT-loop
 μ-loop wide n all₀ k₀ all k = n - k
 
+loop-again : tie.Need-loop-again Inv-loop μ-loop
+loop-again c = search join-step
+
 pub offered-spec : {M : Type 1} → statement M
-offered-spec = tie.close (tie.spec Inv-loop μ-loop (λ c. search join-start) (λ c. search needs) (λ c. search needs) (λ c. search needs)
-    (λ c. search needs) (λ c. search join-step) (λ c. search join-done))
+offered-spec = tie.close (tie.spec Inv-loop μ-loop (λ c. search join-start) (λ c. search needs) (λ c. search needs) (λ c. search needs) (λ c. search needs) loop-again
+    (λ c. search join-done))

@@ -8,5 +8,8 @@ use Rattle.leaf.proofs.rules_out.Tie as tie
 sub-result : tie.Need-sub-result
 sub-result c = omega (arith, and-le-l (c .args .body) (c .args .w))
 
+returns : tie.Need-returns
+returns c = search ruled-out
+
 pub rules-out-spec : {M : Type 1} → statement M
-rules-out-spec = tie.close (tie.spec sub-result (λ c. search ruled-out))
+rules-out-spec = tie.close (tie.spec sub-result returns)

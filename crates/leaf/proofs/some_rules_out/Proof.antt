@@ -15,7 +15,10 @@ Inv-loop table count by w reach i₀ i = Lacks (packedAt table) count (rulesOut 
 abbrev μ-loop : tie.MeasureT-loop
 μ-loop table count by w reach i₀ i = count - i
 
+returns : tie.Need-returns Inv-loop μ-loop
+returns c = search (lacks-hit, via)
+
 pub some-rules-out-spec : {M : Type 1} → statement M
 some-rules-out-spec = tie.close (tie.spec Inv-loop μ-loop (λ c. search lacks-start) (λ c. search needs) (λ c. search needs) (λ c. search needs) (λ c. search needs)
-    (λ c. search needs) (λ c. search needs) (λ c. search needs) (λ c. search needs) (λ c. search needs) (λ c. search (lacks-hit, via)) (λ c. search needs)
-    (λ c. search needs) (λ c. search (lacks-more, via)) (λ c. search lacks-none))
+    (λ c. search needs) (λ c. search needs) (λ c. search needs) (λ c. search needs) (λ c. search needs) returns (λ c. search needs) (λ c. search needs)
+    (λ c. search (lacks-more, via)) (λ c. search lacks-none))

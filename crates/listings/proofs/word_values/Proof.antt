@@ -12,9 +12,9 @@ Inv-loop w out₀ i₀ out i = Filled (valueIn w) 0 12 i out
 abbrev μ-loop : tie.MeasureT-loop
 μ-loop w out₀ i₀ out i = 12 - i
 
+loop-again : tie.Need-loop-again Inv-loop μ-loop
+loop-again c = search fill-more
+
 pub word-values-spec : {M : Type 1} → statement M
-word-values-spec =
-    tie.close
-    (tie.spec
-    Inv-loop μ-loop (λ c. search fill-start) (λ c. search needs) (λ c. search needs) (λ c. search needs) (λ c. search needs) (λ c. search needs) (λ c. search needs)
-    (λ c. search fill-more) (λ c. search fill-done))
+word-values-spec = tie.close (tie.spec Inv-loop μ-loop (λ c. search fill-start) (λ c. search needs) (λ c. search needs) (λ c. search needs) (λ c. search needs)
+    (λ c. search needs) (λ c. search needs) loop-again (λ c. search fill-done))

@@ -13,6 +13,9 @@ Inv-loop s c n₀ i₀ n i = Counted s c i n
 abbrev μ-loop : tie.MeasureT-loop
 μ-loop s c n₀ i₀ n i = length s - i
 
+loop-holds : tie.Need-loop-holds Inv-loop μ-loop
+loop-holds c = search count-none
+
 pub count-of-spec : {M : Type 1} → statement M
-count-of-spec = tie.close (tie.spec Inv-loop μ-loop (λ c. search count-none) (λ c. search needs) (λ c. search needs) (λ c. search needs) (λ c. search needs)
-    (λ c. search needs) (λ c. search count-more) (λ c. search count-done))
+count-of-spec = tie.close (tie.spec Inv-loop μ-loop loop-holds (λ c. search needs) (λ c. search needs) (λ c. search needs) (λ c. search needs) (λ c. search needs)
+    (λ c. search count-more) (λ c. search count-done))

@@ -13,6 +13,9 @@ Inv-loop s at c i₀ i = Sought s c at i
 abbrev μ-loop : tie.MeasureT-loop
 μ-loop s at c i₀ i = length s - i
 
+returns : tie.Need-returns Inv-loop μ-loop
+returns c = search sought-hit
+
 pub end-of-spec : {M : Type 1} → statement M
-end-of-spec = tie.close (tie.spec Inv-loop μ-loop (λ c. search sought) (λ c. search needs) (λ c. search sought-hit) (λ c. search needs) (λ c. search needs)
-    (λ c. search sought-miss) (λ c. search sought-done))
+end-of-spec = tie.close (tie.spec Inv-loop μ-loop (λ c. search sought) (λ c. search needs) returns (λ c. search needs) (λ c. search needs) (λ c. search sought-miss)
+    (λ c. search sought-done))

@@ -13,6 +13,9 @@ Inv-loop out₀ s i₀ out i = Copied out₀ s i out
 abbrev μ-loop : tie.MeasureT-loop
 μ-loop out₀ s i₀ out i = length s - i
 
+loop-again : tie.Need-loop-again Inv-loop μ-loop
+loop-again c = search copy-more
+
 pub put-bytes-spec : {M : Type 1} → statement M
 put-bytes-spec = tie.close (tie.spec Inv-loop μ-loop (λ c. search copy-start) (λ c. search needs) (λ c. search (copy-room, needs)) (λ c. search needs) (λ c. search needs)
-    (λ c. search copy-more) (λ c. search (copy-room, needs)) (λ c. search copy-done))
+    loop-again (λ c. search (copy-room, needs)) (λ c. search copy-done))

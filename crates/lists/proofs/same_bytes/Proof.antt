@@ -13,6 +13,12 @@ Inv-loop a b i₀ i = Alike a b i
 abbrev μ-loop : tie.MeasureT-loop
 μ-loop a b i₀ i = length a - i
 
+returns : tie.Need-returns Inv-loop μ-loop
+returns c = search same-long
+
+returns-2 : tie.Need-returns-2 Inv-loop μ-loop
+returns-2 c = search alike-not
+
 pub same-bytes-spec : {M : Type 1} → statement M
-same-bytes-spec = tie.close (tie.spec Inv-loop μ-loop (λ c. search same-long) (λ c. search alike-start) (λ c. search needs) (λ c. search needs) (λ c. search alike-not)
-    (λ c. search needs) (λ c. search needs) (λ c. search alike-more) (λ c. search alike-done))
+same-bytes-spec = tie.close (tie.spec Inv-loop μ-loop returns (λ c. search alike-start) (λ c. search needs) (λ c. search needs) returns-2 (λ c. search needs)
+    (λ c. search needs) (λ c. search alike-more) (λ c. search alike-done))

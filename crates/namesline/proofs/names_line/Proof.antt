@@ -12,9 +12,10 @@ Inv-loop line count₀ named₀ apart₀ at₀ count named apart at = Naming lin
 abbrev μ-loop : tie.MeasureT-loop
 μ-loop line count₀ named₀ apart₀ at₀ count named apart at = length line + 1 - at
 
+loop-again : tie.Need-loop-again Inv-loop μ-loop
+loop-again c = search naming-more
+
 pub names-line-spec : {M : Type 1} → statement M
-names-line-spec =
-    tie.close
-    (tie.spec
-    Inv-loop μ-loop (λ c. search naming-start) (λ c. search needs) (λ c. search needs) (λ c. search needs) (λ c. search needs) (λ c. search needs) (λ c. search needs)
-    (λ c. search needs) (λ c. search needs) (λ c. search needs) (λ c. search needs) (λ c. search needs) (λ c. search needs) (λ c. search naming-more) (λ c. search naming-done))
+names-line-spec = tie.close (tie.spec Inv-loop μ-loop (λ c. search naming-start) (λ c. search needs) (λ c. search needs) (λ c. search needs) (λ c. search needs)
+    (λ c. search needs) (λ c. search needs) (λ c. search needs) (λ c. search needs) (λ c. search needs) (λ c. search needs) (λ c. search needs) (λ c. search needs)
+    loop-again (λ c. search naming-done))

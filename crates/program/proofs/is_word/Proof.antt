@@ -4,5 +4,11 @@ use borrow.Author.Needs.{needs}
 use Rattle.program.proofs.is_word.Statement.{statement}
 use Rattle.program.proofs.is_word.Tie as tie
 
+returns : tie.Need-returns
+returns c = search every-word
+
+returns-2 : tie.Need-returns-2
+returns-2 c = search word-below
+
 pub is-word-spec : {M : Type 1} → statement M
-is-word-spec = tie.close (tie.spec (λ c. search every-word) (λ c. search needs) (λ c. search needs) (λ c. search needs) (λ c. search word-below))
+is-word-spec = tie.close (tie.spec returns (λ c. search needs) (λ c. search needs) (λ c. search needs) returns-2)

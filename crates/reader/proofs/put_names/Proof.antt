@@ -12,10 +12,10 @@ Inv-loop out₀ line a₀ at₀ out a at = Naming out₀ line at a out
 abbrev μ-loop : tie.MeasureT-loop
 μ-loop out₀ line a₀ at₀ out a at = length line + 1 - at
 
+loop-again : tie.Need-loop-again Inv-loop μ-loop
+loop-again c = search naming-more
+
 pub put-names-spec : {M : Type 1} → statement M
-put-names-spec =
-    tie.close
-    (tie.spec
-    Inv-loop μ-loop (λ c. search naming-start) (λ c. search needs) (λ c. search naming-from) (λ c. search naming-from) (λ c. search needs) (λ c. search needs)
-    (λ c. search needs) (λ c. search needs) (λ c. search naming-room) (λ c. search needs) (λ c. search needs) (λ c. search needs) (λ c. search naming-more) (λ c. search needs)
-    (λ c. search naming-done))
+put-names-spec = tie.close (tie.spec Inv-loop μ-loop (λ c. search naming-start) (λ c. search needs) (λ c. search naming-from) (λ c. search naming-from)
+    (λ c. search needs) (λ c. search needs) (λ c. search needs) (λ c. search needs) (λ c. search naming-room) (λ c. search needs) (λ c. search needs) (λ c. search needs)
+    loop-again (λ c. search needs) (λ c. search naming-done))

@@ -4,9 +4,12 @@ use Rattle.reader.proofs.Answers.{none, read-early, breaks-or-not, read
 use Rattle.reader.proofs.read_program.Statement.{statement}
 use Rattle.reader.proofs.read_program.Tie as tie
 
+returns : tie.Need-returns
+returns c = search read-early
+
+returns-2 : tie.Need-returns-2
+returns-2 c = search (read-seven, none)
+
 pub read-program-spec : {M : Type 1} → statement M
-read-program-spec =
-    tie.close
-    (tie.spec
-    (λ c. search needs) (λ c. search needs) (λ c. search read-early) (λ c. search none) (λ c. search (none, needs)) (λ c. search needs) (λ c. search (read-seven, none))
+read-program-spec = tie.close (tie.spec (λ c. search needs) (λ c. search needs) returns (λ c. search none) (λ c. search (none, needs)) (λ c. search needs) returns-2
     (λ c. search needs) (λ c. search (read-eight, none)) (λ c. search (none, breaks-or-not, needs)) (λ c. search (read-table, none)))

@@ -4,5 +4,8 @@ use Rattle.reader.proofs.Answers.{table-is}
 use Rattle.reader.proofs.table_of.Statement.{statement}
 use Rattle.reader.proofs.table_of.Tie as tie
 
+returns : tie.Need-returns
+returns c = search table-is
+
 pub table-of-spec : {M : Type 1} → statement M
-table-of-spec = tie.close (tie.spec (λ c. search needs) (λ c. search table-is))
+table-of-spec = tie.close (tie.spec (λ c. search needs) returns)

@@ -4,5 +4,8 @@ use Rattle.rising.proofs.Inserting.{inserting}
 use Rattle.rising.proofs.stands.Statement.{statement}
 use Rattle.rising.proofs.stands.Tie as tie
 
+returns : tie.Need-returns
+returns c = search inserting
+
 pub stands-spec : {M : Type 1} → statement M
-stands-spec = tie.close (tie.spec (λ c. search needs) (λ c. search needs) (λ c. search inserting) (λ c. search inserting))
+stands-spec = tie.close (tie.spec (λ c. search needs) (λ c. search needs) returns (λ c. search inserting))

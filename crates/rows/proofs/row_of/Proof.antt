@@ -12,9 +12,9 @@ Inv-loop line values₀ count₀ at₀ values count at = Rowed line at count val
 abbrev μ-loop : tie.MeasureT-loop
 μ-loop line values₀ count₀ at₀ values count at = length line + 1 - at
 
+loop-again : tie.Need-loop-again Inv-loop μ-loop
+loop-again c = search row-more
+
 pub row-of-spec : {M : Type 1} → statement M
-row-of-spec =
-    tie.close
-    (tie.spec
-    Inv-loop μ-loop (λ c. search row-start) (λ c. search needs) (λ c. search needs) (λ c. search needs) (λ c. search needs) (λ c. search needs) (λ c. search needs)
-    (λ c. search needs) (λ c. search needs) (λ c. search needs) (λ c. search needs) (λ c. search row-more) (λ c. search row-done))
+row-of-spec = tie.close (tie.spec Inv-loop μ-loop (λ c. search row-start) (λ c. search needs) (λ c. search needs) (λ c. search needs) (λ c. search needs)
+    (λ c. search needs) (λ c. search needs) (λ c. search needs) (λ c. search needs) (λ c. search needs) (λ c. search needs) loop-again (λ c. search row-done))

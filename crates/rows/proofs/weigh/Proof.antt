@@ -10,9 +10,12 @@ Inv-loop n values holds₀ zero₀ head₀ body₀ naf₀ i₀ holds zero head b
 abbrev μ-loop : tie.MeasureT-loop
 μ-loop n values holds₀ zero₀ head₀ body₀ naf₀ i₀ holds zero head body naf i = i
 
+loop-again : tie.Need-loop-again Inv-loop μ-loop
+loop-again c = search (weigh-more, needs)
+
+returns : tie.Need-returns Inv-loop μ-loop
+returns c = search weigh-done
+
 pub weigh-spec : {M : Type 1} → statement M
-weigh-spec =
-    tie.close
-    (tie.spec
-    Inv-loop μ-loop (λ c. search weigh-start) (λ c. search needs) (λ c. search needs) (λ c. search needs) (λ c. search needs) (λ c. search needs) (λ c. search needs)
-    (λ c. search needs) (λ c. search needs) (λ c. search needs) (λ c. search needs) (λ c. search (weigh-more, needs)) (λ c. search weigh-done))
+weigh-spec = tie.close (tie.spec Inv-loop μ-loop (λ c. search weigh-start) (λ c. search needs) (λ c. search needs) (λ c. search needs) (λ c. search needs)
+    (λ c. search needs) (λ c. search needs) (λ c. search needs) (λ c. search needs) (λ c. search needs) (λ c. search needs) loop-again returns)

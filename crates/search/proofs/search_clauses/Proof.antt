@@ -15,7 +15,13 @@ Inv-loop table count n node-limit models₀ written₀ visited₀ from₀ models
 abbrev μ-loop : tie.MeasureT-loop
 μ-loop table count n node-limit models₀ written₀ visited₀ from₀ models written visited from = 2 ^ 24 - from
 
+loop-holds : tie.Need-loop-holds Inv-loop μ-loop
+loop-holds c = search turn-start
+
+loop-again : tie.Need-loop-again Inv-loop μ-loop
+loop-again c = search turn-next
+
 pub search-clauses-spec : {M : Type 1} → statement M
-search-clauses-spec = tie.close (tie.spec Inv-loop μ-loop (λ c. search turn-start) (λ c. search needs) (λ c. search needs) (λ c. search needs) (λ c. search turn-none)
-    (λ c. search needs) (λ c. search needs) (λ c. search turn-spent) (λ c. search needs) (λ c. search needs) (λ c. search turn-full) (λ c. search needs) (λ c. search needs)
-    (λ c. search needs) (λ c. search (turn-below, needs)) (λ c. search turn-falls) (λ c. search turn-next))
+search-clauses-spec = tie.close (tie.spec Inv-loop μ-loop loop-holds (λ c. search needs) (λ c. search needs) (λ c. search needs) (λ c. search turn-none)
+    (λ c. search needs) (λ c. search needs) (λ c. search turn-spent) (λ c. search needs) (λ c. search needs) (λ c. search turn-full) (λ c. search needs)
+    (λ c. search needs) (λ c. search needs) (λ c. search (turn-below, needs)) (λ c. search turn-falls) loop-again)

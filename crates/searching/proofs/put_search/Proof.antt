@@ -5,8 +5,8 @@ use Rattle.searching.proofs.Texts.{search-cut}
 use Rattle.searching.proofs.put_search.Statement.{statement}
 use Rattle.searching.proofs.put_search.Tie as tie
 
+returns : tie.Need-returns
+returns c = search search-cut
+
 pub put-search-spec : {M : Type 1} → statement M
-put-search-spec =
-    tie.close
-    (tie.spec
-    (λ c. search needs) (λ c. search needs) (λ c. search (cut-long, needs)) (λ c. search (cut-ready, needs)) (λ c. search needs) (λ c. search search-cut))
+put-search-spec = tie.close (tie.spec (λ c. search needs) (λ c. search needs) (λ c. search (cut-long, needs)) (λ c. search (cut-ready, needs)) (λ c. search needs) returns)

@@ -4,5 +4,8 @@ use Rattle.seek.proofs.Dead.{node-tested}
 use Rattle.seek.proofs.node_dead.Statement.{statement}
 use Rattle.seek.proofs.node_dead.Tie as tie
 
+returns : tie.Need-returns
+returns c = search node-tested
+
 pub node-dead-spec : {M : Type 1} → statement M
-node-dead-spec = tie.close (tie.spec (λ c. search needs) (λ c. search node-tested))
+node-dead-spec = tie.close (tie.spec (λ c. search needs) returns)

@@ -4,5 +4,8 @@ use borrow.Author.Needs.{needs}
 use Rattle.stable.proofs.check.Statement.{statement}
 use Rattle.stable.proofs.check.Tie as tie
 
+returns : tie.Need-returns
+returns c = search no-table
+
 pub check-spec : {M : Type 1} → statement M
-check-spec = tie.close (tie.spec (λ c. search needs) (λ c. search no-table) (λ c. search needs) (λ c. search no-word) (λ c. search few) (λ c. search checked))
+check-spec = tie.close (tie.spec (λ c. search needs) returns (λ c. search needs) (λ c. search no-word) (λ c. search few) (λ c. search checked))

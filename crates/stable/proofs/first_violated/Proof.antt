@@ -16,7 +16,9 @@ Inv-loop heads bodies nafs count by w k₀ k = Searched (violatedAt (tabulate (c
 abbrev μ-loop : tie.MeasureT-loop
 μ-loop heads bodies nafs count by w k₀ k = count - k
 
+loop-holds : tie.Need-loop-holds Inv-loop μ-loop
+loop-holds c = search start
+
 pub first-violated-spec : {M : Type 1} → statement M
-first-violated-spec = tie.close (tie.spec Inv-loop μ-loop (λ c. search start) (λ c. search needs) (λ c. search needs) (λ c. search needs) (λ c. search needs)
-    (λ c. search needs) (λ c. search needs) (λ c. search needs) (λ c. search (hit, tested)) (λ c. search needs) (λ c. search needs) (λ c. search (miss, tested))
-    (λ c. search done))
+first-violated-spec = tie.close (tie.spec Inv-loop μ-loop loop-holds (λ c. search needs) (λ c. search needs) (λ c. search needs) (λ c. search needs) (λ c. search needs)
+    (λ c. search needs) (λ c. search needs) (λ c. search (hit, tested)) (λ c. search needs) (λ c. search needs) (λ c. search (miss, tested)) (λ c. search done))

@@ -17,6 +17,9 @@ Inv-loop heads bodies nafs count candidate j₀ j = Searched (smaller (reduct (t
 abbrev μ-loop : tie.MeasureT-loop
 μ-loop heads bodies nafs count candidate j₀ j = candidate - j
 
+loop-holds : tie.Need-loop-holds Inv-loop μ-loop
+loop-holds c = search start
+
 pub least-smaller-spec : {M : Type 1} → statement M
-least-smaller-spec = tie.close (tie.spec Inv-loop μ-loop (λ c. search start) (λ c. search needs) (λ c. search (least-is, hit, smaller-is)) (λ c. search needs)
-    (λ c. search needs) (λ c. search (walk-on, smaller-not)) (λ c. search (least-is, done)))
+least-smaller-spec = tie.close (tie.spec Inv-loop μ-loop loop-holds (λ c. search needs) (λ c. search (least-is, hit, smaller-is)) (λ c. search needs) (λ c. search needs)
+    (λ c. search (walk-on, smaller-not)) (λ c. search (least-is, done)))

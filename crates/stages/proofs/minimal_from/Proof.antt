@@ -4,6 +4,9 @@ use Rattle.stages.proofs.Taking.{minimals-over, minimals-are}
 use Rattle.stages.proofs.minimal_from.Statement.{statement}
 use Rattle.stages.proofs.minimal_from.Tie as tie
 
+returns : tie.Need-returns
+returns c = search minimals-over
+
 pub minimal-from-spec : {M : Type 1} → statement M
-minimal-from-spec = tie.close (tie.spec (λ c. search needs) (λ c. search needs) (λ c. search needs) (λ c. search minimals-over) (λ c. search needs)
-    (λ c. search needs) (λ c. search needs) (λ c. search minimals-are))
+minimal-from-spec = tie.close (tie.spec (λ c. search needs) (λ c. search needs) (λ c. search needs) returns (λ c. search needs) (λ c. search needs) (λ c. search needs)
+    (λ c. search minimals-are))

@@ -12,7 +12,9 @@ Inv-loop a b p₀ p = Alike a b p
 abbrev μ-loop : tie.MeasureT-loop
 μ-loop a b p₀ p = length a - p
 
+returns-2 : tie.Need-returns-2 Inv-loop μ-loop
+returns-2 c = search alike-not
+
 pub same-words-spec : {M : Type 1} → statement M
-same-words-spec = tie.close (tie.spec Inv-loop μ-loop (λ c. search same-long) (λ c. search alike-start) (λ c. search needs) (λ c. search needs)
-    (λ c. search needs) (λ c. search needs) (λ c. search alike-not) (λ c. search needs) (λ c. search needs) (λ c. search alike-more)
-    (λ c. search alike-done))
+same-words-spec = tie.close (tie.spec Inv-loop μ-loop (λ c. search same-long) (λ c. search alike-start) (λ c. search needs) (λ c. search needs) (λ c. search needs)
+    (λ c. search needs) returns-2 (λ c. search needs) (λ c. search needs) (λ c. search alike-more) (λ c. search alike-done))

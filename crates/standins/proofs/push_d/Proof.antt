@@ -4,6 +4,8 @@ use Rattle.standins.proofs.Emitting.{d-is, d-none, d-there}
 use Rattle.standins.proofs.push_d.Statement.{statement}
 use Rattle.standins.proofs.push_d.Tie as tie
 
+returns : tie.Need-returns
+returns c = search d-none
+
 pub push-d-spec : {M : Type 1} → statement M
-push-d-spec = tie.close (tie.spec (λ c. search d-none) (λ c. search needs) (λ c. search needs) (λ c. search d-there) (λ c. search needs)
-    (λ c. search needs) (λ c. search d-is))
+push-d-spec = tie.close (tie.spec returns (λ c. search needs) (λ c. search needs) (λ c. search d-there) (λ c. search needs) (λ c. search needs) (λ c. search d-is))

@@ -24,6 +24,12 @@ returns-2 : tie.Need-returns-2 Inv-loop μ-loop
 unfolding occurs
 returns-2 c = search scan-done
 
+loop-holds : tie.Need-loop-holds Inv-loop μ-loop
+loop-holds c = search scan-start
+
+loop-again : tie.Need-loop-again Inv-loop μ-loop
+loop-again c = search (scan-miss, via)
+
 pub value-occurs-spec : {M : Type 1} → statement M
-value-occurs-spec = tie.close (tie.spec Inv-loop μ-loop (λ c. search scan-start) (λ c. search needs) (λ c. search needs) (λ c. search needs) returns (λ c. search needs)
-    (λ c. search needs) (λ c. search (scan-miss, via)) returns-2)
+value-occurs-spec = tie.close (tie.spec Inv-loop μ-loop loop-holds (λ c. search needs) (λ c. search needs) (λ c. search needs) returns (λ c. search needs)
+    (λ c. search needs) loop-again returns-2)

@@ -12,10 +12,11 @@ Inv-loop flags out₀ i₀ out i = Filled (flagAt flags) 0 12 i out
 abbrev μ-loop : tie.MeasureT-loop
 μ-loop flags out₀ i₀ out i = 12 - i
 
+loop-again : tie.Need-loop-again Inv-loop μ-loop
+unfolding flagAt
+loop-again c = search fill-more
+
 pub ones-of-spec : {M : Type 1} → statement M
 unfolding flagAt
-ones-of-spec =
-    tie.close
-    (tie.spec
-    Inv-loop μ-loop (λ c. search fill-start) (λ c. search needs) (λ c. search needs) (λ c. search needs) (λ c. search needs) (λ c. search needs) (λ c. search needs)
-    (λ c. search fill-more) (λ c. search fill-done))
+ones-of-spec = tie.close (tie.spec Inv-loop μ-loop (λ c. search fill-start) (λ c. search needs) (λ c. search needs) (λ c. search needs) (λ c. search needs)
+    (λ c. search needs) (λ c. search needs) loop-again (λ c. search fill-done))

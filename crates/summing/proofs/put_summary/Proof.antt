@@ -5,8 +5,9 @@ use Rattle.summing.proofs.Texts.{summary-wrote}
 use Rattle.summing.proofs.put_summary.Statement.{statement}
 use Rattle.summing.proofs.put_summary.Tie as tie
 
+returns : tie.Need-returns
+returns c = search summary-wrote
+
 pub put-summary-spec : {M : Type 1} → statement M
-put-summary-spec =
-    tie.close
-    (tie.spec
-    (λ c. search needs) (λ c. search needs) (λ c. search (written-here, needs)) (λ c. search (written-long, needs)) (λ c. search needs) (λ c. search needs) (λ c. search summary-wrote))
+put-summary-spec = tie.close (tie.spec (λ c. search needs) (λ c. search needs) (λ c. search (written-here, needs)) (λ c. search (written-long, needs)) (λ c. search needs)
+    (λ c. search needs) returns)

@@ -4,8 +4,9 @@ use Rattle.summing.proofs.Texts.{text-wrote, never-refused}
 use Rattle.summing.proofs.put_written.Statement.{statement}
 use Rattle.summing.proofs.put_written.Tie as tie
 
+returns : tie.Need-returns
+returns c = search text-wrote
+
 pub put-written-spec : {M : Type 1} → statement M
-put-written-spec =
-    tie.close
-    (tie.spec
-    (λ c. search needs) (λ c. search needs) (λ c. search needs) (λ c. search needs) (λ c. search text-wrote) (λ c. search needs) (λ c. search never-refused))
+put-written-spec = tie.close (tie.spec (λ c. search needs) (λ c. search needs) (λ c. search needs) (λ c. search needs) returns (λ c. search needs)
+    (λ c. search never-refused))

@@ -4,5 +4,8 @@ use borrow.Author.Needs.{needs}
 use Rattle.validity.proofs.clause_holds.Statement.{statement}
 use Rattle.validity.proofs.clause_holds.Tie as tie
 
+returns : tie.Need-returns
+returns c = search clause-is
+
 pub clause-holds-spec : {M : Type 1} → statement M
-clause-holds-spec = tie.close (tie.spec (λ c. search needs) (λ c. search needs) (λ c. search needs) (λ c. search clause-is))
+clause-holds-spec = tie.close (tie.spec (λ c. search needs) (λ c. search needs) (λ c. search needs) returns)

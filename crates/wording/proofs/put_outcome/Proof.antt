@@ -5,11 +5,13 @@ use Rattle.wording.proofs.Words.{outcome-room, outcome-wrote}
 use Rattle.wording.proofs.put_outcome.Statement.{statement}
 use Rattle.wording.proofs.put_outcome.Tie as tie
 
+put-worded-line-requires-2 : tie.Need-put-worded-line-requires-2
+unfolding outcomeWord refusedWord
+put-worded-line-requires-2 c = search outcome-room
+
 pub put-outcome-spec : {M : Type 1} → statement M
 unfolding outcomeWord refusedWord
-put-outcome-spec =
-    tie.close
-    (tie.spec
-    (λ c. search needs) (λ c. search needs) (λ c. search outcome-room) (λ c. search needs) (λ c. search needs) (λ c. search outcome-room) (λ c. search needs)
-    (λ c. search needs) (λ c. search outcome-room) (λ c. search needs) (λ c. search needs) (λ c. search outcome-room) (λ c. search needs) (λ c. search outcome-wrote)
-    (λ c. search needs) (λ c. search outcome-wrote) (λ c. search needs) (λ c. search outcome-wrote) (λ c. search needs) (λ c. search outcome-wrote))
+put-outcome-spec = tie.close (tie.spec (λ c. search needs) (λ c. search needs) (λ c. search outcome-room) (λ c. search needs) (λ c. search needs)
+    put-worded-line-requires-2 (λ c. search needs) (λ c. search needs) (λ c. search outcome-room) (λ c. search needs) (λ c. search needs) (λ c. search outcome-room)
+    (λ c. search needs) (λ c. search outcome-wrote) (λ c. search needs) (λ c. search outcome-wrote) (λ c. search needs) (λ c. search outcome-wrote) (λ c. search needs)
+    (λ c. search outcome-wrote))

@@ -15,10 +15,10 @@ Inv-loop out₀ p at₀ k₀ out at k = Laid (clauseLine p) (p .«clause_count»
 abbrev μ-loop : tie.MeasureT-loop
 μ-loop out₀ p at₀ k₀ out at k = p .«clause_count» - k
 
+put-clause-line-requires : tie.Need-put-clause-line-requires Inv-loop μ-loop
+put-clause-line-requires c = search (laid-room, needs)
+
 pub put-clause-lines-spec : {M : Type 1} → statement M
-put-clause-lines-spec =
-    tie.close
-    (tie.spec
-    Inv-loop μ-loop (λ c. search (clauses-laid, laid-start, needs)) (λ c. search laid-from) (λ c. search laid-from) (λ c. search needs) (λ c. search needs) (λ c. search needs)
-    (λ c. search needs) (λ c. search needs) (λ c. search needs) (λ c. search needs) (λ c. search (laid-room, needs)) (λ c. search laid-fits) (λ c. search needs)
-    (λ c. search needs) (λ c. search laid-more) (λ c. search needs) (λ c. search laid-done))
+put-clause-lines-spec = tie.close (tie.spec Inv-loop μ-loop (λ c. search (clauses-laid, laid-start, needs)) (λ c. search laid-from) (λ c. search laid-from)
+    (λ c. search needs) (λ c. search needs) (λ c. search needs) (λ c. search needs) (λ c. search needs) (λ c. search needs) (λ c. search needs) put-clause-line-requires
+    (λ c. search laid-fits) (λ c. search needs) (λ c. search needs) (λ c. search laid-more) (λ c. search needs) (λ c. search laid-done))
