@@ -1,4 +1,4 @@
-// The epistemic transform of a program, put out as words into two slices: (a), then what `emission` puts behind it, clause by clause.
+// The epistemic transform of a program, put out as words into two slices: (a), then what `standins` puts behind it, clause by clause.
 ghost use mathlib.Core.Path.{_≡_};
 ghost use mathlib.Core.List.{map};
 ghost use Prim.Native.Nat.{_+_, _^_, _≤_, _<_};
