@@ -4,8 +4,8 @@ use Rattle.clauselines.proofs.Reading.{names-few, lines-few, clauses-ar
 use Rattle.clauselines.proofs.clause_lines.Statement.{statement}
 use Rattle.clauselines.proofs.clause_lines.Tie as tie
 
-add-gather : tie.Need-add-gather
-add-gather c = search needs
+gather-requires : tie.Need-gather-requires
+gather-requires c κs = search (names-few, lines-few, needs)
 
 pub clause-lines-spec : {M : Type 1} → statement M
-clause-lines-spec = tie.close (tie.spec (λ c. search needs) add-gather (λ c. search (names-few, lines-few, needs)) (λ c. search clauses-are))
+clause-lines-spec = tie.close (tie.spec (λ c. search needs) (λ c. search needs) gather-requires (λ c. search clauses-are))
