@@ -9,6 +9,8 @@ In crates/trials/data:
   samples     the books of document 01, each with its models
   paper       the worked examples of the paper, labelled by their numbers there, each with its models
   solver      random books of several kinds, each with the models that clingo gives of its positive form (Proposition 3.13)
+  summaries   a book with the values that each name takes in a list (1, 2, 4, 8 for 0 to 3, added), 1 or 0 for each name that takes exactly one or not, and the list:
+              the empty one for books that have no model by clingo, the models of others, and lists in which each name takes one, two, three, four values, or any
 
 In crates/edges/data:
 
@@ -283,6 +285,74 @@ def written_out(table):
         yield label, names.split(), rows(clauses), sorted(word(m) for m in rows(models))
 
 
+# ---- lists and their summaries
+
+def summed(n, words):
+    """The numbers of a record: the values of each name, whether each has exactly one, and the list."""
+    taken = [{w >> (2 * i) & 3 for w in words} for i in range(n)]
+    return [sum(2 ** v for v in values) for values in taken] + [int(len(values) == 1) for values in taken] + words
+
+
+# the values that each name takes and whether it has exactly one are written out, not counted
+SUMMED = [
+    ('circle', 'claim', '17', '0', '0', []),
+    ('stalled', 'paid motor', '1 0 / 4 16', '0 0', '0 0', []),
+    ('either', 'paid motor fell hung due', '1 0 0 0 0 / 4 1 0 0 0 / 0 4 1 1 0 / 0 0 0 4 1', '2 2 3 3 3', '1 1 0 0 0', [21, 325]),
+    ('one undefined', 'a', '', '1', '1', [0]),
+    ('one true', 'a', '', '2', '1', [1]),
+    ('one false', 'a', '', '4', '1', [2]),
+    ('one contradictory', 'a', '', '8', '1', [3]),
+    ('one word twice', 'a', '', '4', '1', [2, 2]),
+    ('two values', 'a', '', '9', '0', [0, 3]),
+    ('two values, falling', 'a', '', '6', '0', [2, 1]),
+    ('four values', 'a', '', '15', '0', [0, 1, 2, 3]),
+    ('one and four values', 'a b', '', '2 15', '1 0', [1, 5, 9, 13]),
+]
+
+
+def solved(label, some):
+    """Sixty random books of three kinds that have some model by clingo, or none."""
+    rng = random.Random(f'{SEED} {label}')
+    k = 0
+    while k < 60:
+        n, clauses = (dense, constraints, defaults)[k % 3](rng)
+        if any(not any(c) for c in clauses):
+            continue
+        models = solve(clauses)
+        if models is None or bool(models) != some:
+            continue
+        k += 1
+        yield f'{label} {k}', names_for(rng, n), clauses, models
+
+
+def words_with(rng, counts):
+    """Words in no order, some of them more than once, in which the name i takes counts[i] values."""
+    length = rng.randint(max(counts), 9)
+    columns = []
+    for count in counts:
+        values = rng.sample(range(4), count)
+        column = values + [rng.choice(values) for _ in range(length - count)]
+        rng.shuffle(column)
+        columns.append(column)
+    return [word(values) for values in zip(*columns)]
+
+
+def lists():
+    """For each number of names a list in which each name takes one, two, three, four values, and one in which each takes any number of them."""
+    rng = random.Random(f'{SEED} lists')
+    for n in range(1, 13):
+        for count in (1, 2, 3, 4):
+            yield f'{count} of the values, {n} names', names_for(rng, n), [], words_with(rng, [count] * n)
+        yield f'any of the values, {n} names', names_for(rng, n), [], words_with(rng, [rng.randint(1, 4) for _ in range(n)])
+
+
+def summaries():
+    for label, names, clauses, values, settled, words in SUMMED:
+        yield label, names.split(), rows(clauses), [int(x) for x in (values + ' ' + settled).split()] + words
+    for label, names, clauses, words in itertools.chain(solved('without a model', False), solved('with models', True), lists()):
+        yield label, names, clauses, summed(len(names), words)
+
+
 # ---- texts that are refused, and texts at the edges that are taken
 
 TWELVE = ' '.join('abcdefghijkl')
@@ -503,6 +573,7 @@ def main():
     save(EDGES, 'vocabulary', [record(a, text_of(list('abcdefghijkl')[:n], c), [r]) for a, n, c, r in vocabulary()])
     save(EDGES, 'rooms', [record(a, text_of(n, c), [r]) for a, n, c, r in rooms()])
     save(TRIALS, 'solver', [record(a, text_of(n, c), m) for kind in KINDS for a, n, c, m in random_books(*kind)])
+    save(TRIALS, 'summaries', [record(a, text_of(n, c), numbers) for a, n, c, numbers in summaries()])
     save(EDGES, 'tables', [record(a, t, numbers) for a, t, *numbers in TABLES])
     with open(os.path.join(TRIALS, 'VERSION'), 'w') as out:
         out.write(f'seed {SEED}\n{version}\n')

@@ -1,4 +1,4 @@
-// Prints the report of each book of docs/BOOKS.md and of the README, read from files, and what other words say of one of them.
+// Prints the report of each book of docs/BOOKS.md and of the README, read from files, and what other words say of two of them.
 ghost use Rattle.io.specs.Counts.{Counts};
 use commands::Command;
 use commands::MOST_BYTES;
@@ -64,7 +64,7 @@ fn main() {
     report(b"sold hung either witness");
     // stalled: paid, and the motor must have turned, which nothing says: no model
     // circle: a claim that holds unless it holds: no model
-    // disputed: the sensor lit, and a bar hangs in the window: fell is contradictory, and the rest is still settled
+    // disputed: the sensor lit, and a bar hangs in the window: fell is contradictory, and no other name is
     report(b"stalled circle disputed");
     // no newline at the end, two equal names, a value that is none, a clause of zeros: refused
     report(b"unended twins misread blank");
@@ -74,6 +74,8 @@ fn main() {
     either(Command::Fixpoint(MOST_PLACES, MOST_WORDS));
     either(Command::Fixpoint(MOST_PLACES, 1));
     either(Command::Summary);
+    // the summary of a book without a model
+    show(b"circle", Command::Summary);
     // words that are p-stable, violate a clause, have a smaller one within them, and are none over the names
     either(Command::Check(21));
     either(Command::Check(1));

@@ -1,11 +1,13 @@
 -- The places of a summary, and its answer. Assumes nothing.
-use mathlib.Core.Path.{_≡_, _∙_}
-use mathlib.Core.Bool.{Bool, true, false}
+use mathlib.Core.Path.{_≡_, refl, _∙_}
+use mathlib.Core.Bool.{Bool, true, false, Bool·beq, false≢true}
 use mathlib.Core.List.{List}
-use Prim.Native.Nat.{ℕ, _≤_, _<_}
-use lib.ListN.{getD}
+use Prim.Native.Nat.{ℕ, _+_, _/_, _%_, _≤_, _<_}
+use lib.Dec.{eqb}
 use borrow.Author.Tests.{lt-ltb, le-ltb}
-use Rattle.sets.specs.Lists.{every, tabulate}
+use Rattle.sets.specs.Lists.{every, anyOf, tabulate, below}
+use Rattle.sets.specs.Words.{bit}
+use Rattle.sets.proofs.Lists.{every-each, below-in}
 use Rattle.program.specs.declared.Program.{Program}
 use Rattle.program.specs.Values.{isWord}
 use Rattle.program.specs.Refusals.{lowest}
@@ -22,13 +24,17 @@ pub shown-out : (n i : ℕ) (words : List ℕ) → n ≤ i → 0 ≡ shownAt n w
 unfolding shownAt
 shown-out n i words h = rw (le-ltb i n h)
 
-pub settled-in : (n i : ℕ) (r : Bool) (shown : List ℕ) → i < n → r ≡ isSettled (getD shown i 0) → r ≡ settledAt n shown i
-unfolding settledAt
-settled-in n i r shown h e = e ∙ rw (lt-ltb i n h)
+-- ---- "exactly one value occurs"
+beq-same : (a b : Bool) → Bool·beq a b ≡ true → a ≡ b
+beq-same true true h = refl
+beq-same true false h = absurd (false≢true h)
+beq-same false true h = absurd (false≢true h)
+beq-same false false h = refl
 
-pub settled-out : (n i : ℕ) (shown : List ℕ) → n ≤ i → false ≡ settledAt n shown i
-unfolding settledAt
-settled-out n i shown h = rw (le-ltb i n h)
+-- the sum of the four lowest bits of a byte is 1 exactly where it shows one value: all bytes are tried
+pub one-bit : (s : ℕ) → s < 256 → eqb (s % 2 + s / 2 % 2 + s / 4 % 2 + s / 8 % 2) 1 ≡ isSettled s
+unfolding isSettled every anyOf below bit
+one-bit s h = beq-same _ _ (every-each (λ x. Bool·beq (eqb (x % 2 + x / 2 % 2 + x / 4 % 2 + x / 8 % 2) 1) (isSettled x)) (below 256) refl s (below-in 256 s h))
 
 module _ (p : Program) (words : List ℕ) where
   pub summary9 : (r : Summary) → valid p ≡ false → r ≡ refusedSummary 9 → r ≡ summaryOf p words
@@ -40,7 +46,7 @@ module _ (p : Program) (words : List ℕ) where
   summary10 r v w e = e ∙ rw (v, w)
 
   pub summary-is : (o : List ℕ) (s : List Bool) → valid p ≡ true → every (isWord (p .«atom_count»)) words ≡ true
-      → o ≡ tabulate (shownAt (p .«atom_count») words) 12 → s ≡ tabulate (settledAt (p .«atom_count») o) 12
+      → o ≡ tabulate (shownAt (p .«atom_count») words) 12 → s ≡ tabulate (settledAt o) 12
       → record { verdict = Accepted; occurring = o; settled = s } ≡ summaryOf p words
   unfolding summaryOf refusal lowest summaryWith
   summary-is o s v w e f = rw (v, w, f, e)

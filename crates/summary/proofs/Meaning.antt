@@ -1,18 +1,18 @@
 -- What the summary says of values and not of bits. Assumes nothing.
-use mathlib.Core.Path.{_≡_, refl, ap, _∙_}
+use mathlib.Core.Path.{_≡_, refl, sym, ap, _∙_}
 use mathlib.Core.Logic.{_↔_, ⊎-elim}
-use mathlib.Core.Bool.{Bool, true, false, cond, not}
-use mathlib.Core.List.{List}
+use mathlib.Core.Bool.{Bool, true, false, cond, not, _&&_, _||_}
+use mathlib.Core.List.{List, []}
 use Prim.Native.Nat.{ℕ, zero, suc, _+_, _*_, _/_, _%_, _^_, _≤_, _<_}
 use native.Mathlib.Omega.{arith}
 use lib.Dec.{eqb}
 use lib.ListN.{getD, List·getD-eq-default}
-use borrow.Author.Tests.{eq-eqb, ne-eqb, eqb-true, lt-ltb, le-ltb, le-leb, leb-true}
-use Rattle.sets.specs.Lists.{every, tabulate}
+use borrow.Author.Tests.{eq-eqb, ne-eqb, eqb-true, lt-ltb, le-ltb}
+use Rattle.sets.specs.Lists.{_∈_, every, anyOf, tabulate, below}
 use Rattle.sets.specs.Words.{bit}
-use Rattle.sets.proofs.Tests.{clash, lt-or-ge, same?, not-T-false}
+use Rattle.sets.proofs.Tests.{clash, both-true, and-is-true, lt-or-ge, same?, not-T-false}
 use Rattle.sets.proofs.Digits.{bit-div, bit-small}
-use Rattle.sets.proofs.Lists.{some-in, in-some, length-tabulate, getD-tabulate}
+use Rattle.sets.proofs.Lists.{every-each, each-every, some-in, in-some, length-tabulate, getD-tabulate, below-in}
 use Rattle.lists.specs.Bytes.{oneIf}
 use Rattle.lists.proofs.Padding.{filler-at}
 use Rattle.program.specs.declared.Program.{Program}
@@ -22,7 +22,8 @@ use Rattle.program.specs.Valid.{valid}
 use Rattle.program.proofs.Values.{value-lt}
 use Rattle.program.proofs.Validity.{valid-names}
 use Rattle.summary.specs.Summary.{occurs, bitIf, occurringIn, isSettled, shownAt, settledAt, refusal, refusedSummary, summaryWith, summaryOf}
-use Rattle.summary.specs.Meaning.{Occurs, AtMostOne, Means}
+use Rattle.summary.specs.Meaning.{Occurs, ExactlyOne, Means}
+use Rattle.summary.proofs.Laws.{shown-out}
 
 -- ---- the test `occurs`
 pub occurs-exactly : (v i : ℕ) (words : List ℕ) → (occurs v i words ≡ true) ↔ Occurs v i words
@@ -57,15 +58,6 @@ below-four P a b c d (suc zero) h = b
 below-four P a b c d (suc (suc zero)) h = c
 below-four P a b c d (suc (suc (suc zero))) h = d
 below-four P a b c d (suc (suc (suc (suc v)))) h = absurd (omega arith)
-
--- of four numbers whose sum is at most 1, no two are 1
-no-two : (f : ℕ → ℕ) → f 0 + f 1 + f 2 + f 3 ≤ 1 → (u v : ℕ) → u < 4 → v < 4 → f u ≡ 1 → f v ≡ 1 → u ≡ v
-no-two f s u v a b = below-four (λ (x : ℕ). f x ≡ 1 → f v ≡ 1 → x ≡ v)
-    (λ p. below-four (λ (y : ℕ). f y ≡ 1 → 0 ≡ y) (λ q. refl) (λ q. absurd (omega arith)) (λ q. absurd (omega arith)) (λ q. absurd (omega arith)) v b)
-    (λ p. below-four (λ (y : ℕ). f y ≡ 1 → 1 ≡ y) (λ q. absurd (omega arith)) (λ q. refl) (λ q. absurd (omega arith)) (λ q. absurd (omega arith)) v b)
-    (λ p. below-four (λ (y : ℕ). f y ≡ 1 → 2 ≡ y) (λ q. absurd (omega arith)) (λ q. absurd (omega arith)) (λ q. refl) (λ q. absurd (omega arith)) v b)
-    (λ p. below-four (λ (y : ℕ). f y ≡ 1 → 3 ≡ y) (λ q. absurd (omega arith)) (λ q. absurd (omega arith)) (λ q. absurd (omega arith)) (λ q. refl) v b)
-    u a
 
 -- ---- what is shown for a name
 module _ (words : List ℕ) (i : ℕ) where
@@ -112,38 +104,36 @@ module _ (words : List ℕ) (i : ℕ) where
       (λ (h : 4 ≤ v). (λ t. clash _ t (four-bits v h), λ s. absurd (let l = occurs-lt v i words s in omega arith)))
       (lt-or-ge v 4)
 
-  -- two values that differ do not both occur
-  not-both : AtMostOne i words → (u v : ℕ) → (u ≡ v → ⊥) → number u + number v ≤ 1
-  unfolding AtMostOne
-  not-both h u v d = go (occurs u i words) (occurs v i words) refl refl
-    where
-      go : (a b : Bool) → occurs u i words ≡ a → occurs v i words ≡ b → oneIf a + oneIf b ≤ 1
-      go true true e f = absurd (d (h u v (occurs-exactly u i words .0 e) (occurs-exactly v i words .0 f)))
-      go true false e f = omega arith
-      go false b e f = omega (arith, one-le b)
+  -- the value v is shown
+  abbrev shows : ℕ → Bool
+  shows v = bit (occurringIn words i) v
 
-  -- "a name is settled when at most one value occurs"
-  pub settled-exactly : (isSettled (occurringIn words i) ≡ true) ↔ AtMostOne i words
-  unfolding isSettled AtMostOne
-  settled-exactly =
-      let s = occurringIn words i in
-      let m = s % 2 + s / 2 % 2 + s / 4 % 2 + s / 8 % 2 in (
-        λ t u v a b. no-two number (omega (arith, leb-true m 1 t, four .d0, four .d1, four .d2, four .d3)) u v
-            (occurs-lt u i words a) (occurs-lt v i words b) (ap oneIf (occurs-exactly u i words .1 a)) (ap oneIf (occurs-exactly v i words .1 b)),
-        λ h. le-leb m 1 (omega (
-          arith,
-          four .d0,
-          four .d1,
-          four .d2,
-          four .d3,
-          not-both h 0 1 (λ e. omega arith),
-          not-both h 0 2 (λ e. omega arith),
-          not-both h 0 3 (λ e. omega arith),
-          not-both h 1 2 (λ e. omega arith),
-          not-both h 1 3 (λ e. omega arith),
-          not-both h 2 3 (λ e. omega arith),
-        )),
-      )
+  -- "a name is settled when exactly one value occurs"
+  pub settled-exactly : (isSettled (occurringIn words i) ≡ true) ↔ ExactlyOne i words
+  unfolding isSettled ExactlyOne
+  settled-exactly = (
+    λ t.
+        let e = both-true _ _ t in
+        let o = some-in shows (below 4) (e .0) in (
+          (o .0, shown-exactly (o .0) .0 (o .2)),
+          λ u v a b. only u v (every-each _ (below 4) (every-each _ (below 4) (e .1) u (of-four u a)) v (of-four v b)) (shown-exactly u .1 a) (shown-exactly v .1 b),
+        ),
+    λ h.
+        let v = h .0 .0 in
+        and-is-true _ _ (in-some shows (below 4) v (of-four v (h .0 .1)) (shown-exactly v .1 (h .0 .1)))
+        (each-every _ (below 4) (λ u m. each-every _ (below 4) (λ v k. alike (h .1) u v (shows u) (shows v) refl refl))),
+  )
+    where
+      of-four : (v : ℕ) → Occurs v i words → v ∈ below 4
+      of-four v o = below-in 4 v (occurs-lt v i words o)
+
+      only : (u v : ℕ) → not (shows u && shows v) || eqb u v ≡ true → shows u ≡ true → shows v ≡ true → u ≡ v
+      only u v t a b = eqb-true u v (rw (a, b) at t)
+
+      alike : ((u v : ℕ) → Occurs u i words → Occurs v i words → u ≡ v) → (u v : ℕ) (a b : Bool) → shows u ≡ a → shows v ≡ b → not (a && b) || eqb u v ≡ true
+      alike h u v true true a b = eq-eqb u v (h u v (shown-exactly u .0 a) (shown-exactly v .0 b))
+      alike h u v true false a b = refl
+      alike h u v false y a b = refl
 
 -- ---- the answer as a whole
 module _ (p : Program) (words : List ℕ) where
@@ -180,20 +170,28 @@ module _ (n : ℕ) (words : List ℕ) where
 
   settled-at : (i : ℕ) → n ≤ 12 → i < n → getD (summaryWith n words .settled) i false ≡ isSettled (occurringIn words i)
   unfolding summaryWith settledAt
-  settled-at i l h =
-      getD-tabulate (settledAt n (tabulate (shownAt n words) 12)) 12 i false (omega arith) ∙ rw (lt-ltb i n h) (ap isSettled (shown-at i l h))
+  settled-at i l h = getD-tabulate (settledAt (tabulate (shownAt n words) 12)) 12 i false (omega arith) ∙ ap isSettled (shown-at i l h)
 
-  -- nothing stands in the place of a name that is none of the n, nor behind the last place
-  none-at : (i : ℕ) → n ≤ i → (getD (summaryWith n words .occurring) i 0 ≡ 0) × (getD (summaryWith n words .settled) i false ≡ false)
-  unfolding summaryWith shownAt settledAt
-  none-at i h = (
-    default-at (shownAt n words) 0 12 i (rw (le-ltb i n h)),
-    default-at (settledAt n (tabulate (shownAt n words) 12)) false 12 i (rw (le-ltb i n h)),
-  )
+-- of an empty list no value is shown
+empty-at : (n i : ℕ) → shownAt n [] i ≡ 0
+unfolding shownAt occurringIn occurs anyOf
+empty-at n i = ⊎-elim (λ (h : i < n). rw (lt-ltb i n h)) (λ (h : n ≤ i). rw (le-ltb i n h)) (lt-or-ge i n)
+
+-- a place that shows no value is not settled, nor is one behind the last
+bare-at : (p : Program) (words : List ℕ) (i : ℕ) → shownAt (p .«atom_count») words i ≡ 0
+    → (getD (summaryOf p words .occurring) i 0 ≡ 0) × (getD (summaryOf p words .settled) i false ≡ false)
+unfolding summaryWith refusedSummary settledAt isSettled anyOf below bit
+bare-at p words i e =
+    let shown = shownAt (p .«atom_count») words in
+    let none = default-at shown 0 12 i e in
+    ⊎-elim
+    (λ z. rw (accepted p words z) (none, default-at (settledAt (tabulate shown 12)) false 12 i (ap isSettled none)))
+    (λ f. rw (refused p words f) (filler-at 0 12 i, filler-at false 12 i))
+    (same? (refusal p words) 0)
 
 -- ==== the theorem
 
--- The summary's answer, for every table and every list of words, says what document 01 says of it.
+-- The summary's answer, for every table and every list of words, says what documents 01 and 02 say of it.
 pub summary-means : (p : Program) (words : List ℕ) → Means p words (summaryOf p words)
 unfolding summaryWith refusedSummary
 summary-means p words =
@@ -203,9 +201,7 @@ summary-means p words =
       number = λ f. rw (refused p words f);
       shows = λ z i h v. rw (accepted p words z, shown-at n words i (few-names p words z) h) (shown-exactly words i v);
       settles = λ z i h. rw (accepted p words z, settled-at n words i (few-names p words z) h) (settled-exactly words i);
-      no-name = λ i h. ⊎-elim
-          (λ z. rw (accepted p words z) (none-at n words i h))
-          (λ f. rw (refused p words f) (filler-at 0 12 i, filler-at false 12 i))
-          (same? (refusal p words) 0);
+      empty = λ e i. bare-at p words i (ap (λ ws. shownAt n ws i) e ∙ empty-at n i) .1;
+      no-name = λ i h. bare-at p words i (sym (shown-out n i words h));
       refused = λ f. rw (refused p words f) (refl, refl);
     }

@@ -2,7 +2,7 @@
 use mathlib.Core.Path.{_≡_}
 use mathlib.Core.Bool.{true, false}
 use mathlib.Core.Logic.{_↔_}
-use mathlib.Core.List.{List}
+use mathlib.Core.List.{List, []}
 use Prim.Native.Nat.{ℕ, _≤_, _<_}
 use lib.ListN.{getD, replicate}
 use Rattle.sets.specs.Lists.{Some}
@@ -17,9 +17,9 @@ use Rattle.summary.specs.Summary.{refusal}
 unfoldable pub Occurs : ℕ → ℕ → List ℕ → Type 0
 Occurs v i words = Some (λ w. valueIn w i ≡ v) words
 
--- "at most one value occurs"
-unfoldable pub AtMostOne : ℕ → List ℕ → Type 0
-AtMostOne i words = (u v : ℕ) → Occurs u i words → Occurs v i words → u ≡ v
+-- "exactly one value occurs": some value does, and any two that do are equal
+unfoldable pub ExactlyOne : ℕ → List ℕ → Type 0
+ExactlyOne i words = ((v : ℕ) × Occurs v i words) × ((u v : ℕ) → Occurs u i words → Occurs v i words → u ≡ v)
 
 -- what the summary s of the words says
 pub record Means (p : Program) (words : List ℕ) (s : Summary) : Type 0 where
@@ -28,8 +28,10 @@ pub record Means (p : Program) (words : List ℕ) (s : Summary) : Type 0 where
   pub number : (refusal p words ≡ 0 → ⊥) → s .verdict ≡ Refused (refusal p words)
   -- "gives for each name which of the four values occur": bit v is set exactly where the value v does
   pub shows : refusal p words ≡ 0 → (i : ℕ) → i < p .«atom_count» → (v : ℕ) → (bit (getD (s .occurring) i 0) v ≡ true) ↔ Occurs v i words
-  -- "a name is settled when at most one value occurs"
-  pub settles : refusal p words ≡ 0 → (i : ℕ) → i < p .«atom_count» → (getD (s .settled) i false ≡ true) ↔ AtMostOne i words
+  -- document 02, U1: "a name is settled when exactly one value occurs in the list"
+  pub settles : refusal p words ≡ 0 → (i : ℕ) → i < p .«atom_count» → (getD (s .settled) i false ≡ true) ↔ ExactlyOne i words
+  -- document 02, U1: "With an empty list no name is settled."
+  pub empty : words ≡ [] → (i : ℕ) → getD (s .settled) i false ≡ false
   -- a name that the program does not have shows no value and is not settled
   pub no-name : (i : ℕ) → p .«atom_count» ≤ i → (getD (s .occurring) i 0 ≡ 0) × (getD (s .settled) i false ≡ false)
   -- "A refused summary shows no value for any name and none settled."

@@ -1,10 +1,11 @@
 -- The summary of a list of words. Assumes nothing.
-use mathlib.Core.Bool.{Bool, true, false, cond, not}
+use mathlib.Core.Bool.{Bool, true, false, cond, not, _&&_, _||_}
 use mathlib.Core.List.{List, [], _∷_}
-use Prim.Native.Nat.{ℕ, _+_, _/_, _%_}
-use lib.Dec.{eqb, leb, ltb}
+use Prim.Native.Nat.{ℕ, _+_}
+use lib.Dec.{eqb, ltb}
 use lib.ListN.{getD, replicate}
-use Rattle.sets.specs.Lists.{every, anyOf, tabulate}
+use Rattle.sets.specs.Lists.{every, anyOf, tabulate, below}
+use Rattle.sets.specs.Words.{bit}
 use Rattle.program.specs.declared.Program.{Program}
 use Rattle.program.specs.Values.{isWord, valueIn}
 use Rattle.program.specs.Refusals.{lowest}
@@ -17,23 +18,24 @@ unfoldable pub occurs : ℕ → ℕ → List ℕ → Bool
 occurs v i words = anyOf (λ w. eqb (valueIn w i) v) words
 
 abbrev pub bitIf : Bool → ℕ → ℕ
-bitIf true bit = bit
-bitIf false bit = 0
+bitIf true k = k
+bitIf false k = 0
 
 -- "gives for each name which of the four values occur": bit v for the value v
 unfoldable pub occurringIn : List ℕ → ℕ → ℕ
 occurringIn words i = bitIf (occurs 0 i words) 1 + bitIf (occurs 1 i words) 2 + bitIf (occurs 2 i words) 4 + bitIf (occurs 3 i words) 8
 
--- "a name is settled when at most one value occurs"
+-- document 02, U1: "a name is settled when exactly one value occurs in the list": some value does, and any two that do are equal
 unfoldable pub isSettled : ℕ → Bool
-isSettled values = leb (values % 2 + values / 2 % 2 + values / 4 % 2 + values / 8 % 2) 1
+isSettled shown =
+    anyOf (λ v. bit shown v) (below 4) && every (λ u. every (λ v. not (bit shown u && bit shown v) || eqb u v) (below 4)) (below 4)
 
--- the place i: places of atoms that the program does not have show no value and are not settled
+-- the place i: that of an atom that the program does not have shows no value, and so is not settled
 unfoldable pub shownAt : ℕ → List ℕ → ℕ → ℕ
 shownAt n words i = cond (ltb i n) (occurringIn words i) 0
 
-unfoldable pub settledAt : ℕ → List ℕ → ℕ → Bool
-settledAt n shown i = cond (ltb i n) (isSettled (getD shown i 0)) false
+unfoldable pub settledAt : List ℕ → ℕ → Bool
+settledAt shown i = isSettled (getD shown i 0)
 
 -- "check and summary 9 and 10"
 abbrev pub refusals : Program → List ℕ → List (ℕ × Bool)
@@ -49,7 +51,7 @@ refusedSummary r = record { verdict = Refused r; occurring = replicate 12 0; set
 unfoldable pub summaryWith : ℕ → List ℕ → Summary
 summaryWith n words =
     let shown = tabulate (shownAt n words) 12 in
-    record { verdict = Accepted; occurring = shown; settled = tabulate (settledAt n shown) 12 }
+    record { verdict = Accepted; occurring = shown; settled = tabulate (settledAt shown) 12 }
 
 -- the summary's answer
 unfoldable pub summaryOf : Program → List ℕ → Summary

@@ -69,10 +69,11 @@ fn occurring_in(words: &[u32], i: usize) -> u8
         + bit_of(words, i, 3, 8)
 }
 
+// Whether exactly one value is shown.
 fn is_settled(s: u8) -> bool
     ensures { λ r. ⌜ r ≡ isSettled s ⌝ }
 {
-    s % 2 + s / 2 % 2 + s / 4 % 2 + s / 8 % 2 <= 1
+    s % 2 + s / 2 % 2 + s / 4 % 2 + s / 8 % 2 == 1
 }
 
 fn shown_at(words: &[u32], n: usize, i: usize) -> u8
@@ -96,23 +97,13 @@ fn occurring_of(words: &[u32], n: usize) -> [u8; program::MOST_ATOMS]
     out
 }
 
-fn settled_at(shown: &[u8; program::MOST_ATOMS], n: usize, i: usize) -> bool
-    requires { ⌜ i < 12 ⌝ }
-    ensures { λ r. ⌜ r ≡ settledAt n (now (shown .entry)) i ⌝ }
-{
-    if i < n {
-        return is_settled(shown[i]);
-    }
-    false
-}
-
-fn settled_of(shown: &[u8; program::MOST_ATOMS], n: usize) -> [bool; program::MOST_ATOMS]
-    ensures { λ r. ⌜ r ≡ tabulate (settledAt n (now (shown .entry))) 12 ⌝ }
+fn settled_of(shown: &[u8; program::MOST_ATOMS]) -> [bool; program::MOST_ATOMS]
+    ensures { λ r. ⌜ r ≡ tabulate (settledAt (now (shown .entry))) 12 ⌝ }
 {
     let mut out = [false; program::MOST_ATOMS];
     let mut i: usize = 0;
     while i < program::MOST_ATOMS {
-        out[i] = settled_at(shown, n, i);
+        out[i] = is_settled(shown[i]);
         i += 1;
     }
     out
@@ -142,7 +133,7 @@ pub fn summarize(p: Program, words: &[u32]) -> Summary
         return refused(program::OUTSIDE_WORD);
     }
     let occurring = occurring_of(words, n);
-    let settled = settled_of(&occurring, n);
+    let settled = settled_of(&occurring);
     Summary {
         verdict: Verdict::Accepted,
         occurring: occurring,

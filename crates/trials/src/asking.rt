@@ -4,6 +4,7 @@ use answers::Answer;
 use answers::FREE;
 use answers::PLACES;
 use program::Program;
+use summary::Summary;
 
 pub fn table_of(text: &[u8]) -> Program {
     let read = reader::read_program(text);
@@ -46,8 +47,12 @@ pub fn check(p: Program, w: u32) -> Answer {
     answers::of_checked(stable::check(p, w), w as u64)
 }
 
+pub fn sum_up(p: Program, words: &[u32]) -> Summary {
+    summary::summarize(p, words)
+}
+
 pub fn summarize(p: Program, words: &[u32]) -> Answer {
-    let s = summary::summarize(p, words);
+    let s = sum_up(p, words);
     let verdict = s.verdict;
     answers::of_verdict(verdict, 0)
 }

@@ -1,4 +1,4 @@
-// Tries the engine from outside, by its public calls alone, on books with stored models: a line for each family says how many were tried and how many agree.
+// Tries the engine from outside, by its public calls alone, on books with stored models and on lists with stored summaries: a line for each family says how many were tried and how many agree.
 // What is asked of a book stands in a file for each family, and the calls themselves in `asking`.
 // The first disagreement is printed with both answers and its record's label, and ends the program.
 mod asking;
@@ -6,6 +6,7 @@ mod candidates;
 mod fixpoints;
 mod saying;
 mod searches;
+mod summaries;
 mod texts;
 
 ghost use mathlib.Core.Path.{_≡_};
@@ -28,6 +29,7 @@ enum Family {
     Searches,
     Fixpoints,
     Candidates,
+    Summaries,
 }
 
 fn tried_if(agrees: bool) -> Tried {
@@ -44,6 +46,7 @@ fn ask(family: Family, text: &[u8], words: &[u32]) -> Tried {
         Family::Searches => tried_if(searches::agrees(p, words)),
         Family::Fixpoints => fixpoints::tried(p, words),
         Family::Candidates => tried_if(candidates::agrees(p, words)),
+        Family::Summaries => tried_if(summaries::agrees(p, words)),
     }
 }
 
@@ -168,6 +171,7 @@ fn print_family(family: Family) {
         Family::Searches => saying::print(b"  searched: "),
         Family::Fixpoints => saying::print(b"  by the fixpoint: "),
         Family::Candidates => saying::print(b"  candidates checked: "),
+        Family::Summaries => saying::print(b"  summed up: "),
     }
 }
 
@@ -211,12 +215,15 @@ fn read(path: &[u8], file: &mut [u8]) -> usize
     n
 }
 
-// The largest file, the solver's books, has 237,618 bytes.
-fn try_file(path: &[u8]) -> bool {
+// A file of books with their models, or of lists with their summaries. The largest, the solver's books, has 237,618 bytes.
+fn try_file(path: &[u8], summed: bool) -> bool {
     let mut file = [0u8; 262144];
     let n = read(path, &mut file);
     saying::print(path);
     saying::print(b"\n");
+    if summed {
+        return try_family(Family::Summaries, &file[..n]);
+    }
     try_families(&file[..n])
 }
 
@@ -226,9 +233,14 @@ fn try_nodes() -> bool {
         && searches::has_nodes(asking::table_of(b"fell due\n1 0\n2 0\n16 1\n"), 23)
 }
 
-// Document 01's samples, the paper's examples, and random books with the models that an outside solver gives.
+// Document 01's samples, the paper's examples, random books with the models that an outside solver gives, and lists with their summaries.
 fn main() {
-    if try_file(b"samples") && try_file(b"paper") && try_file(b"solver") && try_nodes() {
+    if try_file(b"samples", false)
+        && try_file(b"paper", false)
+        && try_file(b"solver", false)
+        && try_file(b"summaries", true)
+        && try_nodes()
+    {
         saying::print(b"node counts: ");
         print_counts(2);
     }

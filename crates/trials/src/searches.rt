@@ -84,6 +84,11 @@ pub fn agrees(p: Program, words: &[u32]) -> bool {
     is_complete(p, ANY, PLACES, words, nodes) && agrees_cut(p, nodes, words)
 }
 
+// Whether the book has no model.
+pub fn has_none(p: Program) -> bool {
+    is_complete(p, ANY, PLACES, &[], ANY)
+}
+
 // Whether the tree has so many nodes.
 pub fn has_nodes(p: Program, nodes: u64) -> bool {
     saying::is_number(answers::SEARCH, nodes, asking::nodes_of(p), 0)

@@ -9,11 +9,15 @@ use Rattle.summary.proofs.settled_of.Statement.{statement}
 use Rattle.summary.proofs.settled_of.Tie as tie
 
 abbrev Inv-loop : tie.InvT-loop
-Inv-loop shown n out₀ i₀ out i = Filled (settledAt n shown) false 12 i out
+Inv-loop shown out₀ i₀ out i = Filled (settledAt shown) false 12 i out
 
 abbrev μ-loop : tie.MeasureT-loop
-μ-loop shown n out₀ i₀ out i = 12 - i
+μ-loop shown out₀ i₀ out i = 12 - i
+
+loop-again : tie.Need-loop-again Inv-loop μ-loop
+unfolding settledAt
+loop-again c = search fill-more
 
 pub settled-of-spec : {M : Type 1} → statement M
 settled-of-spec = tie.close (tie.spec Inv-loop μ-loop (λ c. search fill-start) (λ c. search needs) (λ c. search needs) (λ c. search needs) (λ c. search needs)
-    (λ c. search fill-more) (λ c. search fill-done))
+    (λ c. search needs) loop-again (λ c. search fill-done))
