@@ -9,8 +9,8 @@ In crates/trials/data:
   samples     the books of document 01, each with its models
   paper       the worked examples of the paper, labelled by their numbers there, each with its models
   solver      random books of several kinds, each with the models that clingo gives of its positive form (Proposition 3.13)
-  summaries   a book with the values that each name takes in a list (1, 2, 4, 8 for 0 to 3, added), 1 or 0 for each name that takes exactly one or not, and the list:
-              the empty one for books that have no model by clingo, the models of others, and lists in which each name takes one, two, three, four values, or any
+  summaries   a book with the values that each name takes in a list (1, 2, 4, 8 for 0 to 3, added), 1 for each name that takes exactly one and 0 for another, and the list:
+              of a book with clauses its models, by clingo, also where it has none; of a book without clauses one in which each name takes one, two, three, four values, or any number of them
 
 In crates/edges/data:
 
@@ -225,23 +225,29 @@ def is_large(n, clauses):
     return transformed(n, clauses)[1] <= 64 and largest_stage(n, clauses, LARGE_STAGE) is None
 
 
+def solved(rng, make):
+    """Random books with their models. Passed over: a line of zeros, too many models."""
+    while True:
+        n, clauses = make(rng)
+        if all(any(c) for c in clauses):
+            models = solve(clauses)
+            if models is not None:
+                yield n, clauses, models
+
+
 def random_books(kind, count, make):
-    """The books of a kind with their models. Passed over: a line of zeros, too many models, and large stages but for a few, which take long."""
+    """The books of a kind with their models. Passed over: large stages but for a few, which take long."""
     rng = random.Random(f'{SEED} {kind}')
     k, large = 0, 0
-    while k < count:
-        n, clauses = make(rng)
-        if any(not any(c) for c in clauses):
-            continue
-        models = solve(clauses)
-        if models is None:
-            continue
+    for n, clauses, models in solved(rng, make):
         if is_large(n, clauses):
             if large == MOST_LARGE:
                 continue
             large += 1
         k += 1
         yield f'{kind} {k}', names_for(rng, n), clauses, models
+        if k == count:
+            return
 
 
 # ---- the books of document 01 and of the paper
@@ -310,19 +316,16 @@ SUMMED = [
 ]
 
 
-def solved(label, some):
-    """Sixty random books of three kinds that have some model by clingo, or none."""
+def books_with(some, label):
+    """Sixty random books of three kinds with some model, or with none."""
     rng = random.Random(f'{SEED} {label}')
     k = 0
-    while k < 60:
-        n, clauses = (dense, constraints, defaults)[k % 3](rng)
-        if any(not any(c) for c in clauses):
-            continue
-        models = solve(clauses)
-        if models is None or bool(models) != some:
-            continue
-        k += 1
-        yield f'{label} {k}', names_for(rng, n), clauses, models
+    for n, clauses, models in solved(rng, lambda rng: rng.choice((dense, constraints, defaults))(rng)):
+        if clauses and bool(models) == some:
+            k += 1
+            yield f'{label} {k}', names_for(rng, n), clauses, models
+        if k == 60:
+            return
 
 
 def words_with(rng, counts):
@@ -349,7 +352,7 @@ def lists():
 def summaries():
     for label, names, clauses, values, settled, words in SUMMED:
         yield label, names.split(), rows(clauses), [int(x) for x in (values + ' ' + settled).split()] + words
-    for label, names, clauses, words in itertools.chain(solved('without a model', False), solved('with models', True), lists()):
+    for label, names, clauses, words in itertools.chain(books_with(False, 'without a model'), books_with(True, 'with models'), lists()):
         yield label, names, clauses, summed(len(names), words)
 
 

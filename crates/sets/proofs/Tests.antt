@@ -1,6 +1,6 @@
 -- Laws of tests. Assumes nothing.
 use mathlib.Core.Path.{_≡_, refl, sym, _∙_, subst}
-use mathlib.Core.Bool.{Bool, true, false, not, _&&_, _||_, true≢false, false≢true}
+use mathlib.Core.Bool.{Bool, true, false, not, _&&_, _||_, Bool·beq, true≢false, false≢true}
 use mathlib.Core.Logic.{_⊎_, inl, inr, ⊎-elim}
 use Prim.Native.Nat.{ℕ, _≤_, _<_}
 use lib.Dec.{T, eqb, ltb}
@@ -24,6 +24,12 @@ and-is-true a b p q = rw (p, q)
 pub both-false : (a b : Bool) → a || b ≡ false → (a ≡ false) × (b ≡ false)
 both-false true b h = clash true refl h
 both-false false b h = (refl, h)
+
+pub beq-same : (a b : Bool) → Bool·beq a b ≡ true → a ≡ b
+beq-same true true h = refl
+beq-same true false h = absurd (false≢true h)
+beq-same false true h = absurd (false≢true h)
+beq-same false false h = refl
 
 -- of two numbers the first is smaller, or not
 pub lt-or-ge : (m n : ℕ) → (m < n) ⊎ (n ≤ m)

@@ -1,12 +1,13 @@
--- The places of a summary, and its answer. Assumes nothing.
+-- The places of a summary, when one is settled, and its answer. Assumes nothing.
 use mathlib.Core.Path.{_≡_, refl, _∙_}
-use mathlib.Core.Bool.{Bool, true, false, Bool·beq, false≢true}
+use mathlib.Core.Bool.{Bool, true, false, Bool·beq}
 use mathlib.Core.List.{List}
 use Prim.Native.Nat.{ℕ, _+_, _/_, _%_, _≤_, _<_}
 use lib.Dec.{eqb}
 use borrow.Author.Tests.{lt-ltb, le-ltb}
 use Rattle.sets.specs.Lists.{every, anyOf, tabulate, below}
 use Rattle.sets.specs.Words.{bit}
+use Rattle.sets.proofs.Tests.{beq-same}
 use Rattle.sets.proofs.Lists.{every-each, below-in}
 use Rattle.program.specs.declared.Program.{Program}
 use Rattle.program.specs.Values.{isWord}
@@ -23,13 +24,6 @@ shown-in n i r words h e = e ∙ rw (lt-ltb i n h)
 pub shown-out : (n i : ℕ) (words : List ℕ) → n ≤ i → 0 ≡ shownAt n words i
 unfolding shownAt
 shown-out n i words h = rw (le-ltb i n h)
-
--- ---- "exactly one value occurs"
-beq-same : (a b : Bool) → Bool·beq a b ≡ true → a ≡ b
-beq-same true true h = refl
-beq-same true false h = absurd (false≢true h)
-beq-same false true h = absurd (false≢true h)
-beq-same false false h = refl
 
 -- the sum of the four lowest bits of a byte is 1 exactly where it shows one value: all bytes are tried
 pub one-bit : (s : ℕ) → s < 256 → eqb (s % 2 + s / 2 % 2 + s / 4 % 2 + s / 8 % 2) 1 ≡ isSettled s

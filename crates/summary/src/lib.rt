@@ -1,6 +1,6 @@
 // The summary: which values each atom takes in a list of words, and which atoms are settled.
 ghost use mathlib.Core.Path.{_≡_};
-ghost use Prim.Native.Nat.{_≤_, _<_};
+ghost use Prim.Native.Nat.{_≤_};
 ghost use lib.Dec.{eqb};
 ghost use Rattle.sets.specs.Lists.{every, tabulate};
 ghost use Rattle.program.specs.Values.{isWord, valueIn};

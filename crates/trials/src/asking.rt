@@ -47,12 +47,6 @@ pub fn check(p: Program, w: u32) -> Answer {
     answers::of_checked(stable::check(p, w), w as u64)
 }
 
-pub fn sum_up(p: Program, words: &[u32]) -> Summary {
+pub fn summarize(p: Program, words: &[u32]) -> Summary {
     summary::summarize(p, words)
-}
-
-pub fn summarize(p: Program, words: &[u32]) -> Answer {
-    let s = sum_up(p, words);
-    let verdict = s.verdict;
-    answers::of_verdict(verdict, 0)
 }

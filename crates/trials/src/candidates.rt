@@ -1,6 +1,7 @@
 // Candidates are put to the check: the lowest words, each stored model and its neighbours, and words outside the book's names.
 use crate::asking;
 use crate::saying;
+use crate::summaries;
 use answers::Answer;
 use answers::FREE;
 use answers::PLACES;
@@ -94,11 +95,7 @@ fn is_outside(p: Program, w: u32) -> bool {
 
 fn sums_up(p: Program, w: u32, verdict: Verdict) -> bool {
     let list = [0, w];
-    saying::agree(
-        answers::SUMMARY,
-        answers::of_verdict(verdict, 0),
-        asking::summarize(p, &list),
-    )
+    summaries::has_verdict(asking::summarize(p, &list), verdict)
 }
 
 // Refusal 10: the first word with a bit too high, and the last one, by the check and in a list that is summed up.

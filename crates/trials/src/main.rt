@@ -32,6 +32,12 @@ enum Family {
     Summaries,
 }
 
+// What is stored in a file beside each book.
+enum Stored {
+    Models,
+    Summaries,
+}
+
 fn tried_if(agrees: bool) -> Tried {
     if agrees {
         return Tried::Agrees;
@@ -215,16 +221,16 @@ fn read(path: &[u8], file: &mut [u8]) -> usize
     n
 }
 
-// A file of books with their models, or of lists with their summaries. The largest, the solver's books, has 237,618 bytes.
-fn try_file(path: &[u8], summed: bool) -> bool {
+// The largest file, the solver's books, has 237,618 bytes.
+fn try_file(path: &[u8], stored: Stored) -> bool {
     let mut file = [0u8; 262144];
     let n = read(path, &mut file);
     saying::print(path);
     saying::print(b"\n");
-    if summed {
-        return try_family(Family::Summaries, &file[..n]);
+    match stored {
+        Stored::Models => try_families(&file[..n]),
+        Stored::Summaries => try_family(Family::Summaries, &file[..n]),
     }
-    try_families(&file[..n])
 }
 
 // The numbers of nodes that document 01 gives.
@@ -235,10 +241,10 @@ fn try_nodes() -> bool {
 
 // Document 01's samples, the paper's examples, random books with the models that an outside solver gives, and lists with their summaries.
 fn main() {
-    if try_file(b"samples", false)
-        && try_file(b"paper", false)
-        && try_file(b"solver", false)
-        && try_file(b"summaries", true)
+    if try_file(b"samples", Stored::Models)
+        && try_file(b"paper", Stored::Models)
+        && try_file(b"solver", Stored::Models)
+        && try_file(b"summaries", Stored::Summaries)
         && try_nodes()
     {
         saying::print(b"node counts: ");

@@ -84,9 +84,9 @@ pub fn agrees(p: Program, words: &[u32]) -> bool {
     is_complete(p, ANY, PLACES, words, nodes) && agrees_cut(p, nodes, words)
 }
 
-// Whether the book has no model.
-pub fn has_none(p: Program) -> bool {
-    is_complete(p, ANY, PLACES, &[], ANY)
+// Whether the words are all models.
+pub fn lists_all(p: Program, words: &[u32]) -> bool {
+    is_complete(p, ANY, PLACES, words, ANY)
 }
 
 // Whether the tree has so many nodes.

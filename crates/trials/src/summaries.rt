@@ -44,16 +44,19 @@ fn shows(s: Summary, values: &[u32], settled: &[u32]) -> bool {
     true
 }
 
-// Whether the list is summed up so.
-fn is_summed(p: Program, list: &[u32], verdict: Verdict, values: &[u32], settled: &[u32]) -> bool {
-    let s = asking::sum_up(p, list);
+pub fn has_verdict(s: Summary, verdict: Verdict) -> bool {
     let found = s.verdict;
     saying::agree(
         answers::SUMMARY,
         answers::of_verdict(verdict, 0),
         answers::of_verdict(found, 0),
     )
-        && shows(s, values, settled)
+}
+
+// Whether the list is summed up so.
+fn is_summed(p: Program, list: &[u32], verdict: Verdict, values: &[u32], settled: &[u32]) -> bool {
+    let s = asking::summarize(p, list);
+    has_verdict(s, verdict) && shows(s, values, settled)
 }
 
 // An empty list, and one with a word outside the names.
@@ -68,17 +71,17 @@ fn agrees_bare(p: Program) -> bool {
         )
 }
 
-// The numbers are the values of each name, 1 or 0 for each name, and the list; where that is empty, the book has no model.
+// The numbers are the values of each name, 1 for each name that is settled and 0 for another, and the list: of a book with clauses its models.
 pub fn agrees(p: Program, numbers: &[u32]) -> bool {
     let n = p.atom_count;
     let m = numbers.len();
     if MOST_ATOMS < n {
-        return saying::is_number(answers::READER, 12, n as u64, 0);
+        return saying::is_number(answers::READER, MOST_ATOMS as u64, n as u64, 0);
     }
     if m < 2 * n {
         return saying::is_number(answers::RECORD, 2 * n as u64, m as u64, 0);
     }
-    if (m == 2 * n) && !searches::has_none(p) {
+    if (0 < p.clause_count) && !searches::lists_all(p, &numbers[2 * n..m]) {
         return false;
     }
     is_summed(
