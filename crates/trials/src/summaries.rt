@@ -21,13 +21,6 @@ fn stored_at(numbers: &[u32], k: usize) -> u64 {
     wide(numbers[k])
 }
 
-fn one_if(b: bool) -> u64 {
-    if b {
-        return 1;
-    }
-    0
-}
-
 // Whether a summary shows these values and settles the names with a 1: a name without a number shows none and is not settled.
 fn shows(s: Summary, values: &[u32], settled: &[u32]) -> bool {
     let shown = s.occurring;
@@ -35,7 +28,7 @@ fn shows(s: Summary, values: &[u32], settled: &[u32]) -> bool {
     let mut i: usize = 0;
     while i < MOST_ATOMS {
         let expected = answers::made(answers::NUMBER, stored_at(values, i), stored_at(settled, i));
-        let found = answers::made(answers::NUMBER, shown[i] as u64, one_if(flags[i]));
+        let found = answers::made(answers::NUMBER, shown[i] as u64, flags[i] as u64);
         if !saying::agree(answers::SUMMARY, expected, found) {
             return false;
         }
