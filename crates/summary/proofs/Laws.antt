@@ -1,21 +1,17 @@
--- The places of a summary, when one is settled, and its answer. Assumes nothing.
-use mathlib.Core.Path.{_≡_, refl, _∙_}
-use mathlib.Core.Bool.{Bool, true, false, Bool·beq}
+-- The places of a summary, and its answer. Assumes nothing.
+use mathlib.Core.Path.{_≡_, _∙_}
+use mathlib.Core.Bool.{Bool, true, false}
 use mathlib.Core.List.{List}
-use Prim.Native.Nat.{ℕ, _+_, _/_, _%_, _≤_, _<_}
-use lib.Dec.{eqb}
+use Prim.Native.Nat.{ℕ, _≤_, _<_}
 use borrow.Author.Tests.{lt-ltb, le-ltb}
-use Rattle.sets.specs.Lists.{every, anyOf, tabulate, below}
-use Rattle.sets.specs.Words.{bit}
-use Rattle.sets.proofs.Tests.{beq-same}
-use Rattle.sets.proofs.Lists.{every-each, below-in}
+use Rattle.sets.specs.Lists.{every, tabulate}
 use Rattle.program.specs.declared.Program.{Program}
 use Rattle.program.specs.Values.{isWord}
 use Rattle.program.specs.Refusals.{lowest}
 use Rattle.program.specs.Valid.{valid}
 use Rattle.program.specs.declared.Verdict.the-variants.{Accepted}
 use Rattle.summary.specs.declared.Summary.{Summary}
-use Rattle.summary.specs.Summary.{occurringIn, isSettled, shownAt, settledAt, refusal, refusedSummary, summaryWith, summaryOf}
+use Rattle.summary.specs.Summary.{occurringIn, shownAt, settledAt, refusal, refusedSummary, summaryWith, summaryOf}
 
 pub shown-in : (n i r : ℕ) (words : List ℕ) → i < n → r ≡ occurringIn words i → r ≡ shownAt n words i
 unfolding shownAt
@@ -24,11 +20,6 @@ shown-in n i r words h e = e ∙ rw (lt-ltb i n h)
 pub shown-out : (n i : ℕ) (words : List ℕ) → n ≤ i → 0 ≡ shownAt n words i
 unfolding shownAt
 shown-out n i words h = rw (le-ltb i n h)
-
--- the sum of the four lowest bits of a byte is 1 exactly where it shows one value: all bytes are tried
-pub one-bit : (s : ℕ) → s < 256 → eqb (s % 2 + s / 2 % 2 + s / 4 % 2 + s / 8 % 2) 1 ≡ isSettled s
-unfolding isSettled every anyOf below bit
-one-bit s h = beq-same _ _ (every-each (λ x. Bool·beq (eqb (x % 2 + x / 2 % 2 + x / 4 % 2 + x / 8 % 2) 1) (isSettled x)) (below 256) refl s (below-in 256 s h))
 
 module _ (p : Program) (words : List ℕ) where
   pub summary9 : (r : Summary) → valid p ≡ false → r ≡ refusedSummary 9 → r ≡ summaryOf p words
