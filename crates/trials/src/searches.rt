@@ -84,7 +84,7 @@ pub fn agrees(p: Program, words: &[u32]) -> bool {
     is_complete(p, ANY, PLACES, words, nodes) && agrees_cut(p, nodes, words)
 }
 
-// Whether the words are all models.
+// Whether the search lists just these words and says that they are all.
 pub fn lists_all(p: Program, words: &[u32]) -> bool {
     is_complete(p, ANY, PLACES, words, ANY)
 }
