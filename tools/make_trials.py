@@ -11,6 +11,7 @@ In crates/trials/data:
   solver      random books of several kinds, each with the models that clingo gives of its positive form (Proposition 3.13)
   summaries   a book with the values that each name takes in a list (1, 2, 4, 8 for 0 to 3, added), 1 for each name that takes exactly one and 0 for another, and the list:
               of a book with clauses its models, by clingo, also where it has none; of a book without clauses one in which each name takes one, two, three, four values, or any number of them
+  checks      a book with candidates, each followed by what the check finds, by its definition: 0 0 for p-stable, 1 and the violated clause, 2 and the least smaller subset
 
 In crates/edges/data:
 
@@ -29,6 +30,7 @@ SEED = 20261115
 MOST_MODELS = 300
 LARGE_STAGE = 2000
 MOST_LARGE = 3
+CHECKED_BOOKS = 12
 HERE = os.path.dirname(os.path.abspath(__file__))
 TRIALS = os.path.join(HERE, '..', 'crates', 'trials', 'data')
 EDGES = os.path.join(HERE, '..', 'crates', 'edges', 'data')
@@ -356,6 +358,64 @@ def summaries():
         yield label, names, clauses, summed(len(names), words)
 
 
+# ---- candidates and what the check finds of them
+
+def found(clauses, w):
+    """What the check finds, by trying every proper subset of w, by size and not by number: 0, or 1 with the lowest violated clause, or 2 with the least smaller subset."""
+    words = [[sum(1 << b for b in literals) for literals in parts(c)] for c in clauses]
+    violated = [k for k, (head, body, naf) in enumerate(words) if body & w == body and not naf & w and not head & w]
+    if violated:
+        return 1, min(violated)
+    kept = [(head, body) for head, body, naf in words if not naf & w]
+    bits = [1 << b for b in range(24) if w >> b & 1]
+    subsets = [sum(some) for size in range(len(bits)) for some in itertools.combinations(bits, size)]
+    models = [j for j in subsets if all(body & j != body or head & j for head, body in kept)]
+    return (2, min(models)) if models else (0, 0)
+
+
+def grown(rng, clauses, w, most):
+    """A word from w on that satisfies its reduct, if a literal of each violated head brings it there within `most` literals."""
+    while bin(w).count('1') < most:
+        kind, k = found(clauses, w)
+        head = parts(clauses[k])[0] if kind == 1 else []
+        if not head:
+            break
+        w |= 1 << rng.choice(head)
+    return w
+
+
+def words_to_check(rng, n, clauses):
+    """Every word of a book of up to three names; of another 0, words grown towards models, and those with some literals more."""
+    if n <= 3:
+        return range(4 ** n)
+    words = {0}
+    for _ in range(12):
+        w = grown(rng, clauses, sum(1 << b for b in some_of(rng, n, 0, 3)), 9)
+        words |= {w, grown(rng, clauses, w | sum(1 << b for b in some_of(rng, n, 1, 3)), 9)}
+    return sorted(words)
+
+
+# what the check finds is written out, not looked for
+FACTS = [[v if i == k else 0 for i in range(12)] for k in range(12) for v in (1, 2)]
+CHECKED = [
+    ('every literal a fact', FACTS, '0 1 0 / 16777214 1 0 / 8388607 1 23 / 16777215 0 0'),
+    ('the highest literal a fact', FACTS[23:], '8388607 1 0 / 8388608 0 0 / 8388609 2 8388608 / 12582912 2 8388608 / 16777215 2 8388608'),
+    ('the lowest literal a fact', FACTS[:1], '8388608 1 0 / 1 0 0 / 8388609 2 1 / 3 2 1'),
+    ('the highest literal brings the middle one', [clause(12, [11], [23], []), clause(12, [23, 0], [], [])], '8390656 0 0 / 1 0 0 / 8390657 2 1 / 2049 2 1'),
+]
+
+
+def checks():
+    for label, clauses, answers in CHECKED:
+        yield label, TWELVE.split(), clauses, [x for answer in rows(answers) for x in answer]
+    for kind, _, make in KINDS:
+        rng = random.Random(f'{SEED} checks {kind}')
+        for k in range(1, CHECKED_BOOKS + 1):
+            n, clauses = make(rng)
+            clauses = [c for c in clauses if any(c)]
+            yield f'{kind} {k}', names_for(rng, n), clauses, [x for w in words_to_check(rng, n, clauses) for x in (w, *found(clauses, w))]
+
+
 # ---- texts that are refused, and texts at the edges that are taken
 
 TWELVE = ' '.join('abcdefghijkl')
@@ -577,6 +637,7 @@ def main():
     save(EDGES, 'rooms', [record(a, text_of(n, c), [r]) for a, n, c, r in rooms()])
     save(TRIALS, 'solver', [record(a, text_of(n, c), m) for kind in KINDS for a, n, c, m in random_books(*kind)])
     save(TRIALS, 'summaries', [record(a, text_of(n, c), numbers) for a, n, c, numbers in summaries()])
+    save(TRIALS, 'checks', [record(a, text_of(n, c), numbers) for a, n, c, numbers in checks()])
     save(EDGES, 'tables', [record(a, t, numbers) for a, t, *numbers in TABLES])
     with open(os.path.join(TRIALS, 'VERSION'), 'w') as out:
         out.write(f'seed {SEED}\n{version}\n')

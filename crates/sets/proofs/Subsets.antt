@@ -2,10 +2,10 @@
 use mathlib.Core.Path.{_≡_, _∙_}
 use mathlib.Core.Logic.{_⊎_, ⊎-elim}
 use Prim.Native.Nat.{ℕ, zero, suc, _+_, _-_, _*_, _/_, _%_, _^_, _≤_, _<_, min}
-use native.Mathlib.Nat.{eq-zero-or-pos, pow-suc, div-add-mod'}
+use native.Mathlib.Nat.{eq-zero-or-pos, pow-suc, div-add-mod', mod-eq-of-lt, mod-self}
 use native.Mathlib.Omega.{arith}
-use lib.Bits.{bitAnd, and-step, and-le-r}
-use Rattle.sets.specs.Words.{Inside, Next}
+use lib.Bits.{bitAnd, and-step, and-le-r, and-zero-l}
+use Rattle.sets.specs.Words.{Inside, Next, nextSubset}
 use Rattle.sets.proofs.Digits.{digit-and, digits-ext}
 
 inside-half : (j I : ℕ) → Inside j I → Inside (j / 2) (I / 2)
@@ -55,9 +55,10 @@ go-high I j m q h e o n = record {
   no-between = λ i a b s. let p = inside-odd i I s in n .no-between (i / 2) (omega arith) (omega arith) (inside-half i I s);
 }
 
-pub next-is : (k I j : ℕ) → I < 2 ^ k → Inside j I → j < I → Next I j (bitAnd (2 ^ k - I + j) I)
-next-is zero I j l h s = absurd (omega arith)
-next-is (suc k) I j l h s =
+-- below I nothing wraps: the step is a sum of j and what I leaves of 2 ^ k
+sum-next : (k I j : ℕ) → I < 2 ^ k → Inside j I → j < I → Next I j (bitAnd (2 ^ k - I + j) I)
+sum-next zero I j l h s = absurd (omega arith)
+sum-next (suc k) I j l h s =
     let l′ : I < 2 ^ k * 2 = omega (arith, pow-suc 2 k) in
     let o = inside-odd j I h in
     rw (pow-suc 2 k) (⊎-elim
@@ -65,9 +66,28 @@ next-is (suc k) I j l h s =
     let q : j % 2 ≡ I % 2 = omega arith in
     go-high I j _ (bitAnd (2 ^ k - I / 2 + j / 2) (I / 2)) (inside-and (2 ^ k * 2 - I + j) I)
     (and-step (2 ^ k * 2 - I + j) I ∙ rw (half-go (2 ^ k) I j l′ q, odd-go (2 ^ k) I j l′ q)) q
-    (next-is k (I / 2) (j / 2) (omega arith) (inside-half j I h) (omega arith)))
+    (sum-next k (I / 2) (j / 2) (omega arith) (inside-half j I h) (omega arith)))
     (λ (e : 0 < I % 2 - j % 2).
     let q : j % 2 < I % 2 = omega arith in
     add-low I j _ (inside-and (2 ^ k * 2 - I + j) I)
     (and-step (2 ^ k * 2 - I + j) I ∙ rw (half-add (2 ^ k) I j l′ q, odd-add (2 ^ k) I j l′ q, top-of k (I / 2) (j / 2) (omega arith) (inside-half j I h))) q)
     (eq-zero-or-pos (I % 2 - j % 2)))
+
+step-next : (k I j : ℕ) → I < 2 ^ k → Inside j I → j < I → (x : ℕ) → x ≡ 2 ^ k - I + j → Next I j (bitAnd (x % 2 ^ k) I)
+step-next k I j l h s x e =
+    let d : x < 2 ^ k = omega arith in
+    rw (mod-eq-of-lt d, e) (sum-next k I j l h s)
+
+all-round : (k I x : ℕ) → x ≡ 2 ^ k → bitAnd (x % 2 ^ k) I ≡ 0
+all-round k I x e = rw (e, mod-self (2 ^ k)) (and-zero-l I)
+
+-- ---- the step, for every subset of I
+-- no subset of I lies between its subset j and the next one
+pub next-is : (k I j : ℕ) → I < 2 ^ k → Inside j I → j < I → Next I j (nextSubset k I j)
+unfolding nextSubset
+next-is k I j l h s = step-next k I j l h s _ (omega arith)
+
+-- I itself goes on to zero
+pub last-to-zero : (k I : ℕ) → nextSubset k I I ≡ 0
+unfolding nextSubset
+last-to-zero k I = all-round k I _ (omega arith)

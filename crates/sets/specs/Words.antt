@@ -2,7 +2,7 @@
 use mathlib.Core.Path.{_≡_}
 use mathlib.Core.Bool.{Bool, not}
 use mathlib.Core.List.{List, [], _∷_}
-use Prim.Native.Nat.{ℕ, zero, suc, _+_, _/_, _%_, _^_, _≤_, _<_}
+use Prim.Native.Nat.{ℕ, zero, suc, _+_, _-_, _/_, _%_, _^_, _≤_, _<_}
 use lib.Dec.{T, eqb}
 use lib.Bits.{bitAnd, bitOr}
 
@@ -48,6 +48,10 @@ apart a b = eqb (bitAnd a b) 0
 
 abbrev pub meets : ℕ → ℕ → Bool
 meets a b = not (apart a b)
+
+-- "next subset is (J wrapping minus I) masked by I", among words of k bits
+unfoldable pub nextSubset : ℕ → ℕ → ℕ → ℕ
+nextSubset k I j = bitAnd ((j + 2 ^ k - I) % 2 ^ k) I
 
 -- m is the least word inside I above j
 pub record Next (I j m : ℕ) : Type 0 where

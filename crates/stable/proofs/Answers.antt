@@ -109,6 +109,10 @@ module _ (p : Program) (w : ℕ) where
   pub answered : (r : Checked) → r ≡ answerOf p w → Checks p w r
   answered r e = record { answer = e; says = subst (λ (a : Checked). Says p w a) (sym e) answer-says }
 
+  -- two checks that meet the contract answer alike, however each walks the subsets
+  pub one-answer : (r s : Checked) → Checks p w r → Checks p w s → r ≡ s
+  one-answer r s c d = c .answer ∙ sym (d .answer)
+
   -- the check says stable exactly when Definition 3.1 does
   pub stable-exactly : refusal p w ≡ 0 → (answerOf p w ≡ Stable) ↔ PStable (rulesOf (clauses p)) (bit w)
   unfolding Says answerOf clauses

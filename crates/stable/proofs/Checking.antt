@@ -2,16 +2,17 @@
 use mathlib.Core.Path.{_≡_, refl, sym, ap, _∙_}
 use mathlib.Core.Bool.{Bool, true, false, cond, not, _&&_, _||_, and-false}
 use mathlib.Core.List.{List, [], _∷_, map}
-use Prim.Native.Nat.{ℕ, suc, _+_, _≤_, _<_}
+use Prim.Native.Nat.{ℕ, suc, _+_, _-_, _^_, _≤_, _<_}
 use native.Mathlib.Omega.{arith}
 use lib.Dec.{eqb, eqb·zero-suc, eqb·suc-suc}
 use lib.Bits.{bitAnd, and-le-r, and-zero-l}
 use lib.ListN.{length, getD}
 use borrow.Author.Tests.{lt-ltb, le-ltb, eq-eqb, ne-eqb}
 use Rattle.sets.specs.Lists.{every, sift, tabulate}
-use Rattle.sets.specs.Words.{Inside, Next, inside, apart}
+use Rattle.sets.specs.Words.{Inside, Next, inside, apart, nextSubset}
 use Rattle.sets.specs.Least.{least}
 use Rattle.sets.proofs.Least.{Searched, miss, leap, least-suc}
+use Rattle.sets.proofs.Subsets.{next-is}
 use Rattle.program.specs.Clauses.{Clause, clauseOf, noClause}
 use Rattle.sets.proofs.Lists.{length-tabulate, getD-tabulate}
 use Rattle.stable.specs.declared.Checked.the-variants.{Violated, Smaller, Stable}
@@ -112,9 +113,23 @@ module _ (at : ℕ → Clause) (n I : ℕ) where
       unfolding verdict
       is-stable l = rw (← violated-first, length-tabulate at n, le-ltb v n h, ← f, le-ltb j I l)
 
--- a turn of the walk: the word j fails the test, and the next subset is m
-pub walk-on : (R : List Clause) (I j m : ℕ) → Searched (smaller R I) I j → j < I → smaller R I j ≡ false → Next I j m → Searched (smaller R I) I m
-unfolding smaller
-walk-on R I j m s l f x =
-    leap (smaller R I) I (j + 1) m (miss (smaller R I) I j s l f) (omega (arith, x .above)) (omega (arith, and-le-r m I, x .inside))
-    (λ k a b. rw (ne-eqb (bitAnd k I) k (λ q. x .no-between k (omega arith) b q)))
+-- ---- a turn of the walk: j is not I, and m follows it
+module _ (I j m : ℕ) (l : I < 2 ^ 32) (h : Inside j I) (s : j < I) (e : m ≡ nextSubset 32 I j) where
+  follows : Next I j m
+  follows = rw e (next-is 32 I j l h s)
+
+  within : m ≤ I
+  within = let n = follows in omega (arith, and-le-r m I, n .inside)
+
+  pub still-inside : Inside m I
+  still-inside = follows .inside
+
+  pub walk-falls : I - m < I - j
+  walk-falls = let n = follows in omega (arith, n .above, within)
+
+  -- the word j fails the test, and no word between the two is a subset
+  pub walk-on : (R : List Clause) → Searched (smaller R I) I j → smaller R I j ≡ false → Searched (smaller R I) I m
+  unfolding smaller
+  walk-on R t f =
+      let n = follows in
+      leap (smaller R I) I (j + 1) m (miss (smaller R I) I j t s f) (omega (arith, n .above)) within (λ k a b. rw (ne-eqb (bitAnd k I) k (λ q. n .no-between k (omega arith) b q)))

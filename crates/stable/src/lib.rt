@@ -1,8 +1,8 @@
 // The check of one candidate against Definition 3.1.
 ghost use mathlib.Core.Path.{_≡_};
-ghost use Prim.Native.Nat.{_≤_, _<_};
+ghost use Prim.Native.Nat.{_≤_};
 ghost use Rattle.sets.specs.Lists.{tabulate};
-ghost use Rattle.sets.specs.Words.{Inside, Next};
+ghost use Rattle.sets.specs.Words.{nextSubset};
 ghost use Rattle.sets.specs.Least.{least};
 ghost use Rattle.program.specs.Clauses.{clauseOf, clauseAt};
 ghost use Rattle.semantics.specs.Interpretations.{violates, violatedAt, leastSmaller};
@@ -46,12 +46,11 @@ fn first_violated<'a>(
     count
 }
 
-// The least subset of `word` above its subset `j`.
+// The subset of `word` that follows its subset `j` in the order of numbers; 0 after `word` itself.
 fn next_subset(word: u32, j: u32) -> u32
-    requires { ⌜ Inside j word × (j < word) ⌝ }
-    ensures { λ r. ⌜ Next word j r ⌝ }
+    ensures { λ r. ⌜ r ≡ nextSubset 32 word j ⌝ }
 {
-    (0xffff_ffff - word + j + 1) & word
+    std::num::wrapping_sub_u32(j, word) & word
 }
 
 // The least proper subset of `candidate` that satisfies the reduct by it; `candidate` where there is none.

@@ -1,4 +1,4 @@
-// The calls of the engine that a book with stored models is put to, each in one place.
+// The calls of the engine that a record is put to, each in one place.
 use answers::ANY;
 use answers::Answer;
 use answers::FREE;

@@ -1,8 +1,9 @@
-// Tries the engine from outside, by its public calls alone, on books with stored models and on lists with stored summaries: a line for each family says how many were tried and how many agree.
+// Tries the engine from outside, by its public calls alone, on books with stored models, on lists with stored summaries and on candidates with stored answers: a line for each family says how many were tried and how many agree.
 // What is asked of a book stands in a file for each family, and the calls themselves in `asking`.
 // The first disagreement is printed with both answers and its record's label, and ends the program.
 mod asking;
 mod candidates;
+mod checks;
 mod fixpoints;
 mod saying;
 mod searches;
@@ -30,12 +31,14 @@ enum Family {
     Fixpoints,
     Candidates,
     Summaries,
+    Checks,
 }
 
 // What is stored in a file beside each book.
 enum Stored {
     Models,
     Summaries,
+    Checks,
 }
 
 fn tried_if(agrees: bool) -> Tried {
@@ -53,6 +56,7 @@ fn ask(family: Family, text: &[u8], words: &[u32]) -> Tried {
         Family::Fixpoints => fixpoints::tried(p, words),
         Family::Candidates => tried_if(candidates::agrees(p, words)),
         Family::Summaries => tried_if(summaries::agrees(p, words)),
+        Family::Checks => tried_if(checks::agrees(p, words)),
     }
 }
 
@@ -178,6 +182,7 @@ fn print_family(family: Family) {
         Family::Fixpoints => saying::print(b"  by the fixpoint: "),
         Family::Candidates => saying::print(b"  candidates checked: "),
         Family::Summaries => saying::print(b"  summed up: "),
+        Family::Checks => saying::print(b"  checks, with clause and subset: "),
     }
 }
 
@@ -230,6 +235,7 @@ fn try_file(path: &[u8], stored: Stored) -> bool {
     match stored {
         Stored::Models => try_families(&file[..n]),
         Stored::Summaries => try_family(Family::Summaries, &file[..n]),
+        Stored::Checks => try_family(Family::Checks, &file[..n]),
     }
 }
 
@@ -239,12 +245,13 @@ fn try_nodes() -> bool {
         && searches::has_nodes(asking::table_of(b"fell due\n1 0\n2 0\n16 1\n"), 23)
 }
 
-// Document 01's samples, the paper's examples, random books with the models that an outside solver gives, and lists with their summaries.
+// Document 01's samples, the paper's examples, random books with the models that an outside solver gives, lists with their summaries, and candidates with their answers.
 fn main() {
     if try_file(b"samples", Stored::Models)
         && try_file(b"paper", Stored::Models)
         && try_file(b"solver", Stored::Models)
         && try_file(b"summaries", Stored::Summaries)
+        && try_file(b"checks", Stored::Checks)
         && try_nodes()
     {
         saying::print(b"node counts: ");

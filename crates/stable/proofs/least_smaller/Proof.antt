@@ -1,6 +1,6 @@
 -- `stable::least_smaller` meets its contract: the walk has looked at every subset below j, and j is one. Assumes nothing.
 use Rattle.sets.proofs.Least.{done, hit, start}
-use Rattle.stable.proofs.Checking.{least-is, smaller-is, smaller-not, walk-on}
+use Rattle.stable.proofs.Checking.{least-is, smaller-is, smaller-not, still-inside, walk-falls, walk-on}
 use borrow.Author.Needs.{needs}
 use Prim.Native.Nat.{_-_}
 use Rattle.sets.specs.Words.{Inside}
@@ -21,5 +21,5 @@ loop-holds : tie.Need-loop-holds Inv-loop μ-loop
 loop-holds c = search start
 
 pub least-smaller-spec : {M : Type 1} → statement M
-least-smaller-spec = tie.close (tie.spec Inv-loop μ-loop loop-holds (λ c. search needs) (λ c. search (least-is, hit, smaller-is)) (λ c. search needs) (λ c. search needs)
-    (λ c. search (walk-on, smaller-not)) (λ c. search (least-is, done)))
+least-smaller-spec = tie.close (tie.spec Inv-loop μ-loop loop-holds (λ c. search needs) (λ c. search (least-is, hit, smaller-is)) (λ c. search needs) (λ c. search walk-falls)
+    (λ c. search (walk-on, smaller-not, still-inside)) (λ c. search (least-is, done)))

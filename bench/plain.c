@@ -1,7 +1,8 @@
-/* The report in plain C, as the yardstick: the same tree, the same node test and the same leaf test, nothing proved.
-   Reads a book from standard input and prints what the report prints. */
+/* The report and the check in plain C, as the yardstick: the same tree, the same node test, the same leaf test and the same walk, nothing proved.
+   Reads a book from standard input and prints what the report prints; with the words `check WORD`, what the check does. */
 #include <stdbool.h>
 #include <stdint.h>
+#include <stdlib.h>
 #include <string.h>
 #include <unistd.h>
 
@@ -145,29 +146,54 @@ static void put_number(uint64_t n) {
     put(s + i, sizeof s - i);
 }
 
-int main(void) {
+static void put_numbered(const char *s, uint64_t n) {
+    put_word(s);
+    put_word(" ");
+    put_number(n);
+    put_word("\n");
+}
+
+/* ---- the check */
+static inline size_t first_violated(uint32_t by, uint32_t w) {
+    for (size_t i = 0; i < clauses; i++)
+        if (((bodies[i] & ~w) | (nafs[i] & by) | (heads[i] & w)) == 0) return i;
+    return clauses;
+}
+
+static void check(uint32_t candidate) {
+    if (candidate >> (2 * atoms)) { put_numbered("refused", 10); return; }
+    size_t v = first_violated(candidate, candidate);
+    if (v < clauses) { put_numbered("violated", v); return; }
+    uint32_t j = 0;
+    while (j != candidate && first_violated(candidate, j) < clauses) j = (j - candidate) & candidate;
+    if (j != candidate) put_numbered("smaller", j);
+    else put_word("stable\n");
+}
+
+/* ---- the report */
+static void report(void) {
+    for (size_t i = 0; i < clauses; i++) outs[i] = heads[i] | nafs[i];
+    visit(2 * atoms, 0);
+    put(in, line_end[0] + 1);
+    for (size_t m = 0; m < written; m++)
+        for (size_t i = 0; i < atoms; i++) {
+            out[out_len++] = '0' + (models[m] >> (2 * i) & 3);
+            out[out_len++] = i + 1 < atoms ? ' ' : '\n';
+        }
+    put_word(outcome == COMPLETE ? "complete " : outcome == FULL ? "full " : "spent ");
+    put_number(written);
+    put_word(" ");
+    put_number(visited);
+    put_word("\n");
+}
+
+int main(int words, char **word) {
     ssize_t n;
     while (in_len < sizeof in && (n = read(0, in + in_len, sizeof in - in_len)) > 0) in_len += n;
     int refusal = read_book();
-    if (refusal) {
-        put_word("refused ");
-        put_number(refusal);
-        put_word("\n");
-    } else {
-        for (size_t i = 0; i < clauses; i++) outs[i] = heads[i] | nafs[i];
-        visit(2 * atoms, 0);
-        put(in, line_end[0] + 1);
-        for (size_t m = 0; m < written; m++)
-            for (size_t i = 0; i < atoms; i++) {
-                out[out_len++] = '0' + (models[m] >> (2 * i) & 3);
-                out[out_len++] = i + 1 < atoms ? ' ' : '\n';
-            }
-        put_word(outcome == COMPLETE ? "complete " : outcome == FULL ? "full " : "spent ");
-        put_number(written);
-        put_word(" ");
-        put_number(visited);
-        put_word("\n");
-    }
+    if (refusal) put_numbered("refused", refusal);
+    else if (words == 3) check(strtoul(word[2], 0, 10));
+    else report();
     for (size_t at = 0; at < out_len && (n = write(1, out + at, out_len - at)) > 0;) at += n;
     return 0;
 }
