@@ -81,13 +81,13 @@ step-next k I j l h s x e =
 all-round : (k I x : ℕ) → x ≡ 2 ^ k → bitAnd (x % 2 ^ k) I ≡ 0
 all-round k I x e = rw (e, mod-self (2 ^ k)) (and-zero-l I)
 
--- ---- the step, for every subset of I
--- no subset of I lies between its subset j and the next one
+-- ---- what document 02 asks of the step (U4), for every subset of I
+-- "no subset lies between the two": j and its next one, where j is not I
 pub next-is : (k I j : ℕ) → I < 2 ^ k → Inside j I → j < I → Next I j (nextSubset k I j)
 unfolding nextSubset
 next-is k I j l h s = step-next k I j l h s _ (omega arith)
 
--- I itself goes on to zero
+-- "the candidate itself goes on to zero"
 pub last-to-zero : (k I : ℕ) → nextSubset k I I ≡ 0
 unfolding nextSubset
 last-to-zero k I = all-round k I _ (omega arith)

@@ -109,7 +109,7 @@ module _ (p : Program) (w : ℕ) where
   pub answered : (r : Checked) → r ≡ answerOf p w → Checks p w r
   answered r e = record { answer = e; says = subst (λ (a : Checked). Says p w a) (sym e) answer-says }
 
-  -- two checks that meet the contract answer alike, however each walks the subsets
+  -- "every check answers as before" (document 02, U4): two that meet the contract answer alike, however each walks the subsets
   pub one-answer : (r s : Checked) → Checks p w r → Checks p w s → r ≡ s
   one-answer r s c d = c .answer ∙ sym (d .answer)
 
