@@ -73,21 +73,21 @@ sum-next (suc k) I j l h s =
     (and-step (2 ^ k * 2 - I + j) I ∙ rw (half-add (2 ^ k) I j l′ q, odd-add (2 ^ k) I j l′ q, top-of k (I / 2) (j / 2) (omega arith) (inside-half j I h))) q)
     (eq-zero-or-pos (I % 2 - j % 2)))
 
-step-next : (k I j : ℕ) → I < 2 ^ k → Inside j I → j < I → (x : ℕ) → x ≡ 2 ^ k - I + j → Next I j (bitAnd (x % 2 ^ k) I)
-step-next k I j l h s x e =
+step-next : (k I j : ℕ) → I < 2 ^ k → Inside j I → j < I → (x y : ℕ) → x ≡ 2 ^ k - I + j → y ≡ I → Next I j (bitAnd (x % 2 ^ k) y)
+step-next k I j l h s x y e f =
     let d : x < 2 ^ k = omega arith in
-    rw (mod-eq-of-lt d, e) (sum-next k I j l h s)
+    rw (mod-eq-of-lt d, e, f) (sum-next k I j l h s)
 
-all-round : (k I x : ℕ) → x ≡ 2 ^ k → bitAnd (x % 2 ^ k) I ≡ 0
-all-round k I x e = rw (e, mod-self (2 ^ k)) (and-zero-l I)
+all-round : (k x y : ℕ) → x ≡ 2 ^ k → bitAnd (x % 2 ^ k) y ≡ 0
+all-round k x y e = rw (e, mod-self (2 ^ k)) (and-zero-l y)
 
 -- ---- what document 02 asks of the step (U4), for every subset of I
 -- "no subset lies between the two": j and its next one, where j is not I
 pub next-is : (k I j : ℕ) → I < 2 ^ k → Inside j I → j < I → Next I j (nextSubset k I j)
 unfolding nextSubset
-next-is k I j l h s = step-next k I j l h s _ (omega arith)
+next-is k I j l h s = step-next k I j l h s _ _ (omega arith) (omega arith)
 
 -- "the candidate itself goes on to zero"
 pub last-to-zero : (k I : ℕ) → nextSubset k I I ≡ 0
 unfolding nextSubset
-last-to-zero k I = all-round k I _ (omega arith)
+last-to-zero k I = all-round k _ _ (omega arith)
