@@ -93,26 +93,22 @@ static size_t written;
 static uint64_t visited;
 static enum { COMPLETE, FULL, SPENT } outcome;
 
-/* outs: what must be out for the clause to be violated, head and not-part */
+/* outs: what must be out for the clause to be violated, head and not-part. One pass tells whether the node is dead:
+   some clause is violated, or some literal of w has no clause that could still support it. */
 static inline bool node_dead(uint32_t w, uint32_t reach) {
-    for (size_t i = 0; i < clauses; i++)
+    uint32_t all = 0;
+    for (size_t i = 0; i < clauses; i++) {
         if (((bodies[i] & ~w) | (outs[i] & reach)) == 0) return true;
-    return false;
+        uint32_t met = heads[i] & w;
+        all |= ((bodies[i] & ~reach) | (nafs[i] & w) | (met & (met - 1)) | (met & bodies[i])) == 0 ? met : 0;
+    }
+    return (w & ~all) != 0;
 }
 
 static inline bool rules_out(uint32_t by, uint32_t w, uint32_t reach) {
     for (size_t i = 0; i < clauses; i++)
         if (((bodies[i] & ~w) | (nafs[i] & by) | (heads[i] & reach)) == 0) return true;
     return false;
-}
-
-static bool supported(uint32_t w) {
-    uint32_t all = 0;
-    for (size_t i = 0; i < clauses; i++) {
-        uint32_t met = heads[i] & w;
-        all |= ((bodies[i] & ~w) | (nafs[i] & w) | (met & (met - 1)) | (met & bodies[i])) == 0 ? met : 0;
-    }
-    return (w & ~all) == 0;
 }
 
 static bool has_smaller(uint32_t by, uint32_t held, uint32_t undecided) {
@@ -128,7 +124,7 @@ static bool visit(uint32_t k, uint32_t w) {
     visited++;
     if (node_dead(w, w | ((1u << k) - 1))) return true;
     if (k == 0) {
-        if (!supported(w) || has_smaller(w, 0, w)) return true;
+        if (has_smaller(w, 0, w)) return true;
         if (written == PLACES) { outcome = FULL; return false; }
         models[written++] = w;
         return true;

@@ -1,22 +1,30 @@
 #!/usr/bin/env python3
 """Builds plain.c with gcc -O2, compares what it and the engine's programs print, byte for byte, and prints the two times and their ratio:
-the least processor time, user and system, of several runs of each, one after the other in turn. Compared are the report of every book of
-books/ and, for three of them, the check of the word of all twenty-four literals. Then the fixpoint of each book of stages/, by
-target/bin/pstable with 65,536 words in each working slice, against a limit in seconds; and the tools that look for what the documents name.
-With books named, only their reports are compared.
+the least processor time, user and system, of several turns, one program after the other; a time below 20 ms is the mean of as many runs as
+make that up, since of a shorter one the ratio says nothing. Compared are the report of every book of
+books/ and, for three of them, the check of the word of all twenty-four literals. Then the report against clingo (Debian's package gringo),
+asked for 4,097 models of the positive form: wall clock of the whole process, the least of ten, on the same books and on random ones.
+Then the fixpoint of each book of stages/, by target/bin/pstable with 65,536 words in each working slice, against a limit in seconds;
+and the tools that look for what the documents name. With books named, only their reports are compared with C.
 From the repository's root: rt check report pstable && python3 bench/run.py [RUNS [BOOK ..]]"""
 import os
+import random
 import resource
+import shutil
 import subprocess
 import sys
+import time
 
 here = os.path.dirname(os.path.abspath(__file__))
+sys.path.append(os.path.join(here, "..", "tools"))
+sys.dont_write_bytecode = True
+import make_trials
 report = os.path.join(here, "..", "target", "bin", "report")
 pstable = os.path.join(here, "..", "target", "bin", "pstable")
 plain = os.path.join(here, "..", "target", "plain_c")
 runs = int(sys.argv[1]) if len(sys.argv) > 1 else 5
-# of a time that is shorter the ratio says nothing
-SHORTEST = 0.005
+# the time that one turn takes at least, in seconds
+SHORTEST = 0.02
 subprocess.run(["gcc", "-O2", "-o", plain, os.path.join(here, "plain.c")], check=True)
 
 
@@ -29,11 +37,13 @@ def used():
     return spent.ru_utime + spent.ru_stime
 
 
-def run(program, book, *words):
+def run(program, book, *words, again=1):
+    """The processor time of a run, as the mean of so many, and what it prints."""
     before = used()
-    with open(book) as text:
-        out = subprocess.run([program, *words], stdin=text, capture_output=True).stdout
-    return used() - before, out
+    for _ in range(again):
+        with open(book) as text:
+            out = subprocess.run([program, *words], stdin=text, capture_output=True).stdout
+    return (used() - before) / again, out
 
 
 def last_line(out):
@@ -45,19 +55,83 @@ def compare(label, program, books, times, *words):
     well = True
     print("%-14s %8s %8s %6s  %s" % (label, os.path.basename(program), "C", "ratio", "last line"))
     for book in books:
+        again = 1 + int(SHORTEST / max(run(plain, book, *words)[0], 0.0002))
         ours, theirs = [], []
         for _ in range(times):
-            ours.append(run(program, book, *words))
-            theirs.append(run(plain, book, *words))
+            ours.append(run(program, book, *words, again=again))
+            theirs.append(run(plain, book, *words, again=again))
         outs = {out for _, out in ours + theirs}
         a, c = min(t for t, _ in ours), min(t for t, _ in theirs)
-        ratio = "%6.2f" % (a / c) if c >= SHORTEST else "     -"
         last = last_line(min(outs))
         if len(outs) != 1:
             well, last = False, "THE OUTPUTS DIFFER"
-        if a > 5 or (c >= SHORTEST and a > 1.3 * c):
+        if a > 5 or a > 1.3 * c:
             well, last = False, last + "  (slow)"
-        print("%-14s %8.3f %8.3f %s  %s" % (os.path.basename(book), a, c, ratio, last))
+        print("%-14s %8.4f %8.4f %6.2f  %s" % (os.path.basename(book), a, c, a / c, last))
+    return well
+
+
+# ---- clingo
+# books in which support stays open until the lowest literals are decided: their trees have a million nodes and more, and clingo is no bar for them
+LATE = ("late_choices", "late_default", "late_many", "late_support")
+
+
+def from_file(name):
+    with open(in_books(name)) as text:
+        names, *lines = text.read().splitlines()
+    return name, names.split(), [[int(v) for v in line.split()] for line in lines]
+
+
+def random_books():
+    """Eight books of 8 clauses and eight of 64, over twelve names."""
+    rng = random.Random("bench")
+    literals = make_trials.some_of
+    for k in range(1, 9):
+        made = [make_trials.clause(12, literals(rng, 12, 1, 3), literals(rng, 12, 0, 1), literals(rng, 12, 0, 1)) for _ in range(8)]
+        yield "random_8_%d" % k, list("abcdefghijkl"), made
+    for k in range(1, 9):
+        yield "random_64_%d" % k, list("abcdefghijkl"), make_trials.many(rng)[1]
+
+
+def least_wall(command, text):
+    least = None
+    for _ in range(10):
+        start = time.perf_counter()
+        out = subprocess.run(command, input=text, capture_output=True, text=True).stdout
+        taken = time.perf_counter() - start
+        least = taken if least is None else min(least, taken)
+    return least, out
+
+
+def words_of(lines):
+    return [make_trials.word([int(v) for v in line.split()]) for line in lines]
+
+
+def same_models(out, answer):
+    """Whether the report lists what clingo finds; where its list is full, only that clingo finds more than it has places for."""
+    _, *models, last = out.splitlines()
+    found = make_trials.words_in(answer)
+    return len(found) > 4096 if last.startswith("full") else words_of(models) == found
+
+
+def against_clingo(books):
+    """A line for each book; whether the report lists the same models, and takes no longer than clingo on each that has a bar."""
+    if not shutil.which("clingo"):
+        print("clingo is not there")
+        return False
+    well = True
+    print("%-14s %8s %8s %6s  %s" % ("clingo", "report", "clingo", "ratio", "last line"))
+    for name, names, clauses in books:
+        a, out = least_wall([report], make_trials.text_of(names, clauses))
+        c, answer = least_wall(["clingo", "-n", "4097", "--verbose=0", "-Wnone"], make_trials.positive_form(clauses))
+        last = last_line(out.encode())
+        if not same_models(out, answer):
+            well, last = False, "THE MODELS DIFFER"
+        elif name in LATE:
+            last += "  (no bar)"
+        elif a > c:
+            well, last = False, last + "  (slow)"
+        print("%-14s %8.4f %8.4f %6.2f  %s" % (name, a, c, a / c, last))
     return well
 
 
@@ -77,10 +151,11 @@ def tool(name):
 
 if len(sys.argv) > 2:
     sys.exit(not compare("books", report, sys.argv[2:], runs))
-results = [compare("books", report, [in_books(name) for name in sorted(os.listdir(in_books("")))], runs)]
-# two of these take some milliseconds, so more runs are needed for a steady least
+names = sorted(os.listdir(in_books("")))
+results = [compare("books", report, [in_books(name) for name in names], runs)]
 checks = ("facts", "repeated_facts", "highest_fact")
-results.append(compare("checks", pstable, [in_books(name) for name in checks], 5 * runs, "check", "16777215"))
+results.append(compare("checks", pstable, [in_books(name) for name in checks], runs, "check", "16777215"))
+results.append(against_clingo([from_file(name) for name in names] + list(random_books())))
 print("%-14s %8s %8s  %s" % ("stages", "fixpoint", "limit", "last line"))
 # the seconds that the fixpoint of a book may take, and how its output ends
 stages = {"one_head": (0.05, "complete 6"), "random_heads": (2, "refused 12"), "large_stage": (1, "complete 120")}

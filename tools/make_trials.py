@@ -12,6 +12,7 @@ In crates/trials/data:
   summaries   a book with the values that each name takes in a list (1, 2, 4, 8 for 0 to 3, added), 1 for each name that takes exactly one and 0 for another, and the list:
               of a book with clauses its models, by clingo, also where it has none; of a book without clauses one in which each name takes one, two, three, four values, or any number of them
   checks      a book with candidates, each followed by what the check finds, by its definition: 0 0 for p-stable, 1 and the violated clause, 2 and the least smaller subset
+  nodes       a book with the number of nodes of its tree, and for each of its models how many nodes are visited when it is come to; the tree is formed here by its definition, and the models are clingo's
 
 In crates/edges/data:
 
@@ -31,6 +32,7 @@ MOST_MODELS = 300
 LARGE_STAGE = 2000
 MOST_LARGE = 3
 CHECKED_BOOKS = 12
+COUNTED_BOOKS = 12
 HERE = os.path.dirname(os.path.abspath(__file__))
 TRIALS = os.path.join(HERE, '..', 'crates', 'trials', 'data')
 EDGES = os.path.join(HERE, '..', 'crates', 'edges', 'data')
@@ -75,20 +77,22 @@ def positive_form(clauses):
     return '\n'.join(lines)
 
 
+def words_in(answer):
+    """The words of the models that clingo prints, rising."""
+    lines = answer.split('\n')[:-1]
+    if 'UNSATISFIABLE' in lines:
+        return []
+    return sorted(sum(1 << int(atom[1:]) for atom in line.split()) for line in lines if line != 'SATISFIABLE')
+
+
 def solve(clauses):
     """The words of the stable models of the positive form, rising; None where there are more than MOST_MODELS."""
     run = subprocess.run(['clingo', '-n', str(MOST_MODELS + 1), '--verbose=0', '-Wnone'],
                          input=positive_form(clauses), capture_output=True, text=True)
     if run.returncode not in (10, 20, 30):
         sys.exit(f'clingo failed: {run.stderr}')
-    found = []
-    for line in run.stdout.split('\n')[:-1]:
-        if line == 'SATISFIABLE' or line == 'UNSATISFIABLE':
-            continue
-        found.append(sum(1 << int(atom[1:]) for atom in line.split()))
-    if run.returncode == 20:
-        found = []
-    return sorted(found) if len(found) <= MOST_MODELS else None
+    found = words_in(run.stdout)
+    return found if len(found) <= MOST_MODELS else None
 
 
 # ---- the stages of the transform, by their definition
@@ -416,6 +420,64 @@ def checks():
             yield f'{kind} {k}', names_for(rng, n), clauses, [x for w in words_to_check(rng, n, clauses) for x in (w, *found(clauses, w))]
 
 
+# ---- trees and their nodes
+
+def is_dead(rules, k, word):
+    """Whether the node is violated or unsupported, where the literals from k on are decided and those of the set `word` are in."""
+    def decided_in(literals):
+        return {b for b in literals if b >= k and b in word}
+
+    def decided_out(literals):
+        return {b for b in literals if b >= k and b not in word}
+
+    for head, body, naf in rules:
+        if decided_in(body) == body and decided_out(naf) == naf and decided_out(head) == head:
+            return True
+    for b in word:
+        if not any(b in head and b not in body and not decided_out(body) and not decided_in(naf) and not decided_in(head - {b}) for head, body, naf in rules):
+            return True
+    return False
+
+
+def visits(rules, k, word):
+    """The nodes of the tree below a node, in visiting order: the number of undecided literals and the set of those that are in."""
+    yield k, word
+    if k > 0 and not is_dead(rules, k, word):
+        yield from visits(rules, k - 1, word)
+        yield from visits(rules, k - 1, word | {k - 1})
+
+
+def counted(n, clauses, models):
+    """The number of nodes, and for each model the number of those that are visited when it is come to."""
+    rules = [tuple(set(literals) for literals in parts(c)) for c in clauses]
+    words = [sum(1 << b for b in word) if k == 0 else None for k, word in visits(rules, 2 * n, frozenset())]
+    return [len(words)] + [words.index(m) + 1 for m in models]
+
+
+# the counts are written out, not counted: those that document 02 prints, one for each condition of support, a whole tree, and one that never branches
+NODES = [
+    ('no clause', 'a', '', '5 3'),
+    ('report', 'fell due', '1 0 / 2 0 / 16 1', '13 7'),
+    ('a fact supports nothing else', 'a', '1', '5 4'),
+    ('a literal from itself', 'a', '10', '5 3'),
+    ('a literal from one that is out', 'a b', '0 9', '9 5'),
+    ('a literal unless it holds', 'a', '34', '3'),
+    ('one of two literals', 'a b', '0 3', '15 6 12'),
+    ('a constraint of what nothing supports', 'a', '8', '5 3'),
+    ('support decided last', 'a b c', '1 0 0 / 6 0 0 / 4 1 0 / 4 2 0 / 4 0 1 / 4 0 2', '127 127'),
+    ('no clause, twelve names', 'a b c d e f g h i j k l', '', '49 25'),
+]
+
+
+def nodes():
+    for label, names, clauses, counts in NODES:
+        yield label, names.split(), rows(clauses), [int(x) for x in counts.split()]
+    for kind, _, make in KINDS:
+        rng = random.Random(f'{SEED} nodes {kind}')
+        for k, (n, clauses, models) in enumerate(itertools.islice(solved(rng, make), COUNTED_BOOKS), 1):
+            yield f'{kind} {k}', names_for(rng, n), clauses, counted(n, clauses, models)
+
+
 # ---- texts that are refused, and texts at the edges that are taken
 
 TWELVE = ' '.join('abcdefghijkl')
@@ -638,6 +700,7 @@ def main():
     save(TRIALS, 'solver', [record(a, text_of(n, c), m) for kind in KINDS for a, n, c, m in random_books(*kind)])
     save(TRIALS, 'summaries', [record(a, text_of(n, c), numbers) for a, n, c, numbers in summaries()])
     save(TRIALS, 'checks', [record(a, text_of(n, c), numbers) for a, n, c, numbers in checks()])
+    save(TRIALS, 'nodes', [record(a, text_of(n, c), numbers) for a, n, c, numbers in nodes()])
     save(EDGES, 'tables', [record(a, t, numbers) for a, t, *numbers in TABLES])
     with open(os.path.join(TRIALS, 'VERSION'), 'w') as out:
         out.write(f'seed {SEED}\n{version}\n')

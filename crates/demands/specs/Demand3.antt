@@ -72,7 +72,7 @@ pub record AllModels (p : Program) : Type 0 where
   pub exactly : (w : ℕ) → (w ∈ allModels p) ↔ ((w < 2 ^ (2 * p .«atom_count»)) × PStable (rulesOf (clauses p)) (bit w))
 
 -- ---- a run by search, of an accepted table
--- "Let N be the number of all nodes."
+-- "Let N be the number of all nodes."; document 02, U3: "N counts the smaller tree"
 abbrev pub N : Program → ℕ
 N p = length (nodesOf p)
 

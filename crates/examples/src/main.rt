@@ -68,9 +68,9 @@ fn main() {
     report(b"stalled circle disputed");
     // no newline at the end, two equal names, a value that is none, a clause of zeros: refused
     report(b"unended twins misread blank");
-    // a list of one place, a limit of 100 nodes, the fixpoint, the fixpoint in too little room, and the summary
+    // a list of one place, a limit of 30 nodes, the fixpoint, the fixpoint in too little room, and the summary
     either(Command::Search(NODE_LIMIT, 1));
-    either(Command::Search(100, MOST_PLACES));
+    either(Command::Search(30, MOST_PLACES));
     either(Command::Fixpoint(MOST_PLACES, MOST_WORDS));
     either(Command::Fixpoint(MOST_PLACES, 1));
     either(Command::Summary);

@@ -1,5 +1,4 @@
 -- What is proved of clauses in one array and of the leaf test.
 pub mod Packing
-pub mod Supported
 pub mod Subsets
-pub mod Loops
+pub mod Words

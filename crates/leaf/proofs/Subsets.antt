@@ -1,26 +1,26 @@
 -- The smaller subsets of a word, depth first: what is left where a branch is cut, and how two branches make one. Assumes nothing.
-use mathlib.Core.Path.{_≡_, refl, sym, ap, _∙_, subst}
-use mathlib.Core.Bool.{Bool, true, false, not, _&&_, _||_}
+use mathlib.Core.Path.{_≡_, sym, ap, _∙_, subst}
+use mathlib.Core.Bool.{Bool, true, false, not, _&&_}
 use mathlib.Core.Logic.{_⊎_, ⊎-elim}
-use mathlib.Core.List.{List, [], _∷_}
+use mathlib.Core.List.{List}
 use Prim.Native.Nat.{ℕ, _-_, _<_}
 use native.Mathlib.Nat.{eq-or-lt-of-le}
 use native.Mathlib.Omega.{arith}
 use lib.Dec.{T, eqb}
 use lib.Bits.{bitOr, and-zero-l, or-zero-l, or-zero-r}
 use borrow.Author.Tests.{eqb-true, eqb-false, eq-eqb, ne-eqb}
-use Rattle.sets.specs.Lists.{_∈_, every, anyOf, sift, below}
+use Rattle.sets.specs.Lists.{anyOf, below}
 use Rattle.sets.specs.Words.{bit, Inside, Apart, inside, apart, Highest}
 use Rattle.sets.specs.Least.{least}
 use Rattle.sets.proofs.Tests.{dec, clash, both-true, and-is-true}
-use Rattle.sets.proofs.Lists.{some-in, none-each, below-in, in-below}
+use Rattle.sets.proofs.Lists.{some-in, in-some, below-in, in-below}
 use Rattle.sets.proofs.Least.{least-miss, least-none}
 use Rattle.sets.proofs.Branches.{or-left, or-right, Between, out-wider, in-wider, from-out, from-in, branches}
 use Rattle.sets.proofs.Digits.{inside-bits, inside-le}
 use Rattle.program.specs.Clauses.{Clause}
 use Rattle.semantics.specs.Interpretations.{reduct, isModel, violates, smaller, leastSmaller, isStable}
 use Rattle.stable.proofs.Readings.{apart-none}
-use Rattle.stable.proofs.Checking.{model-cons}
+use Rattle.stable.proofs.Checking.{model-some}
 use Rattle.leaf.specs.Leaf.{rulesOut, smallerBetween}
 
 -- ---- words as sets
@@ -40,18 +40,6 @@ module _ (R t : ℕ) (h : Highest R t) (J : ℕ) where
   in-inside I s = inside-bits (bitOr (bitOr J t) (R - t)) I .1 (λ i u. inside-bits (bitOr J R) I .0 s i (in-wider R t h J i u))
 
 -- ---- a clause that is violated by all between
-pub model-some : (P : List Clause) (I w : ℕ) → isModel (reduct P I) w ≡ not (anyOf (violates I w) P)
-unfolding anyOf isModel reduct every sift
-model-some [] I w = refl
-model-some (c ∷ P) I w = model-cons c P I w ∙ rw (model-some P I w) (go (violates I w c) (anyOf (violates I w) P))
-  where
-    go : (a b : Bool) → not a && not b ≡ not (a || b)
-    go true b = refl
-    go false b = refl
-
-in-some : {A : Type 0} (p : A → Bool) (l : List A) (x : A) → x ∈ l → p x ≡ true → anyOf p l ≡ true
-in-some p l x m t = ⊎-elim (λ e. e) (λ f. clash (p x) t (none-each p l f x m)) (dec (anyOf p l))
-
 module _ (P : List Clause) (I : ℕ) where
   violated : (J R K : ℕ) (c : Clause) → Between J R K → rulesOut I J (bitOr J R) c ≡ true → violates I K c ≡ true
   unfolding rulesOut violates

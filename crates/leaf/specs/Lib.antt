@@ -1,3 +1,3 @@
--- Clauses in one array, and the test of a leaf in two steps; the laws stand in proofs/.
+-- Clauses in one array, and the test of a live leaf; the laws stand in proofs/.
 pub mod Packed
 pub mod Leaf

@@ -8,13 +8,13 @@ ghost use Rattle.sets.specs.Words.{Inside, Highest};
 ghost use Rattle.program.specs.Clauses.{clauseOf};
 ghost use Rattle.semantics.specs.Interpretations.{reduct, isModel, isStable};
 ghost use Rattle.leaf.specs.Packed.{packedAt, Packs};
-ghost use Rattle.leaf.specs.Leaf.{rulesOut, supports, supported, smallerBetween};
+ghost use Rattle.leaf.specs.Leaf.{rulesOut, smallerBetween};
 
 // ---- the clauses in one array, which a recursion hands down as one reference
 // The heads from place 0 on, the bodies, the not-parts, and how many words that are.
-const BODIES: usize = program::MOST_CLAUSES;
+pub const BODIES: usize = program::MOST_CLAUSES;
 
-const NAFS: usize = 2 * program::MOST_CLAUSES;
+pub const NAFS: usize = 2 * program::MOST_CLAUSES;
 
 pub const WORDS: usize = 3 * program::MOST_CLAUSES;
 
@@ -38,14 +38,14 @@ pub fn pack<'a>(
 
 // ---- clauses that rule out every word from `w` up to `reach`
 // Whether the body lies in `w`, the not-part misses `by` and the head misses `reach`; one test, since three are three branches.
-fn rules_out(head: u32, body: u32, naf: u32, by: u32, w: u32, reach: u32) -> bool
+pub fn rules_out(head: u32, body: u32, naf: u32, by: u32, w: u32, reach: u32) -> bool
     ensures { λ r. ⌜ r ≡ rulesOut by w reach (clauseOf head body naf) ⌝ }
 {
     ((body - (body & w)) | (naf & by) | (head & reach)) == 0
 }
 
 // Whether that is so of some clause.
-pub fn some_rules_out(table: &[u32; WORDS], count: usize, by: u32, w: u32, reach: u32) -> bool
+fn some_rules_out(table: &[u32; WORDS], count: usize, by: u32, w: u32, reach: u32) -> bool
     requires { ⌜ count ≤ 64 ⌝ }
     ensures { λ r. ⌜ r ≡ anyOf (rulesOut by w reach) (tabulate (packedAt (now (table .entry))) count) ⌝ }
 {
@@ -60,32 +60,6 @@ pub fn some_rules_out(table: &[u32; WORDS], count: usize, by: u32, w: u32, reach
 }
 
 // ---- the leaf test
-// The literal of `w` that a clause supports, as a word.
-fn support(head: u32, body: u32, naf: u32, w: u32) -> u32
-    ensures { λ r. ⌜ r ≡ supports w (clauseOf head body naf) ⌝ }
-{
-    let met = head & w;
-    let below = std::num::wrapping_sub_u32(met, 1);
-    if ((body - (body & w)) | (naf & w) | (met & below) | (met & body)) == 0 {
-        return met;
-    }
-    0
-}
-
-// The literals of `w` that some clause supports.
-fn support_of(table: &[u32; WORDS], count: usize, w: u32) -> u32
-    requires { ⌜ count ≤ 64 ⌝ }
-    ensures { λ r. ⌜ r ≡ supported (tabulate (packedAt (now (table .entry))) count) w ⌝ }
-{
-    let mut all: u32 = 0;
-    let mut i: usize = 0;
-    while i < count {
-        all = all | support(table[i], table[BODIES + i], table[NAFS + i], w);
-        i += 1;
-    }
-    all
-}
-
 // The highest bit of a word that has one.
 fn highest(x: u32) -> u32
     requires { ⌜ 0 < x ⌝ }
@@ -114,14 +88,11 @@ fn has_smaller(table: &[u32; WORDS], count: usize, by: u32, held: u32, undecided
     has_smaller(table, count, by, held | top, rest)
 }
 
-// Whether a word that satisfies its reduct is p-stable: its literals are supported, and no smaller subset satisfies the reduct.
+// Whether a word that satisfies its reduct is p-stable: no smaller subset satisfies the reduct.
 pub fn leaf_stable(table: &[u32; WORDS], count: usize, w: u32) -> bool
     requires { ⌜ count ≤ 64 ⌝ }
     requires { ⌜ isModel (reduct (tabulate (packedAt (now table)) count) w) w ≡ true ⌝ }
     ensures { λ r. ⌜ r ≡ isStable (tabulate (packedAt (now (table .entry))) count) w ⌝ }
 {
-    if w & support_of(table, count, w) != w {
-        return false;
-    }
     !has_smaller(table, count, w, 0, w)
 }

@@ -11,7 +11,7 @@ use Rattle.program.specs.Valid.{valid}
 use Rattle.program.specs.declared.Outcome.the-variants.{Refused}
 use Rattle.program.proofs.Validity.{valid-names, valid-clauses}
 use Rattle.tree.specs.declared.SearchAnswer.{SearchAnswer}
-use Rattle.tree.specs.Tree.{dead}
+use Rattle.tree.specs.NodeTest.{dead}
 use Rattle.tree.specs.Answer.{answer, Searches, Ends}
 use Rattle.tree.proofs.Runs.{accepted, refused}
 use Rattle.leaf.specs.Packed.{packedAt, Packs}

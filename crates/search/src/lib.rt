@@ -2,7 +2,7 @@
 ghost use mathlib.Core.Path.{_≡_};
 ghost use Prim.Native.Nat.{_≤_};
 ghost use Rattle.sets.specs.Lists.{tabulate};
-ghost use Rattle.tree.specs.Tree.{dead};
+ghost use Rattle.tree.specs.NodeTest.{dead};
 ghost use Rattle.tree.specs.Answer.{answer, Searches, Ends};
 ghost use Rattle.leaf.specs.Packed.{packedAt};
 use program::Outcome;

@@ -207,28 +207,19 @@ module _ (hit : Node → Bool) (A n : ℕ) (l : List ℕ) where
       go true false p q e f r = ap (runs hit A xs) (step-miss hit A x n v l (ltb-true _ _ p) q) ∙ r e f
       go false c p q e f r = absurd (f refl)
 
-  -- the first hit is not below what bounds all nodes
-  pub sought-above : (xs : List Node) (c v : ℕ) → All (λ u. c ≤ u) xs → (sought hit A xs v ≡ noLeaf → ⊥) → (sought hit A xs v ≡ spent → ⊥) → c ≤ sought hit A xs v
+  -- what is so of every word, and what is so of the word of every hit, is so of the first hit
+  pub sought-holds : (p q : ℕ → Type 0) → ((x : Node) → hit x ≡ true → q (x .word)) → (xs : List Node) (v : ℕ) → All p xs
+      → (sought hit A xs v ≡ noLeaf → ⊥) → (sought hit A xs v ≡ spent → ⊥) → p (sought hit A xs v) × q (sought hit A xs v)
   unfolding sought All
-  sought-above [] c v a e f = absurd (e refl)
-  sought-above (x ∷ xs) c v a e f = go (ltb v A) (hit x) e f (sought-above xs c (v + 1) (a .1))
+  sought-holds p q h [] v a e f = absurd (e refl)
+  sought-holds p q h (x ∷ xs) v a e f = go (ltb v A) (hit x) refl e f (sought-holds p q h xs (v + 1) (a .1))
     where
-      go : (b d : Bool) → (cond b (cond d (x .word) (sought hit A xs (v + 1))) spent ≡ noLeaf → ⊥) → (cond b (cond d (x .word) (sought hit A xs (v + 1))) spent ≡ spent → ⊥)
-          → ((sought hit A xs (v + 1) ≡ noLeaf → ⊥) → (sought hit A xs (v + 1) ≡ spent → ⊥) → c ≤ sought hit A xs (v + 1)) → c ≤ cond b (cond d (x .word) (sought hit A xs (v + 1))) spent
-      go true true e f r = a .0
-      go true false e f r = r e f
-      go false d e f r = absurd (f refl)
-
-  pub sought-below : (xs : List Node) (c v : ℕ) → All (λ u. u < c) xs → (sought hit A xs v ≡ noLeaf → ⊥) → (sought hit A xs v ≡ spent → ⊥) → sought hit A xs v < c
-  unfolding sought All
-  sought-below [] c v a e f = absurd (e refl)
-  sought-below (x ∷ xs) c v a e f = go (ltb v A) (hit x) e f (sought-below xs c (v + 1) (a .1))
-    where
-      go : (b d : Bool) → (cond b (cond d (x .word) (sought hit A xs (v + 1))) spent ≡ noLeaf → ⊥) → (cond b (cond d (x .word) (sought hit A xs (v + 1))) spent ≡ spent → ⊥)
-          → ((sought hit A xs (v + 1) ≡ noLeaf → ⊥) → (sought hit A xs (v + 1) ≡ spent → ⊥) → sought hit A xs (v + 1) < c) → cond b (cond d (x .word) (sought hit A xs (v + 1))) spent < c
-      go true true e f r = a .0
-      go true false e f r = r e f
-      go false d e f r = absurd (f refl)
+      go : (b d : Bool) → hit x ≡ d → (cond b (cond d (x .word) (sought hit A xs (v + 1))) spent ≡ noLeaf → ⊥) → (cond b (cond d (x .word) (sought hit A xs (v + 1))) spent ≡ spent → ⊥)
+          → ((sought hit A xs (v + 1) ≡ noLeaf → ⊥) → (sought hit A xs (v + 1) ≡ spent → ⊥) → p (sought hit A xs (v + 1)) × q (sought hit A xs (v + 1)))
+          → p (cond b (cond d (x .word) (sought hit A xs (v + 1))) spent) × q (cond b (cond d (x .word) (sought hit A xs (v + 1))) spent)
+      go true true i e f r = (a .0, h x i)
+      go true false i e f r = r e f
+      go false d i e f r = absurd (f refl)
 
   -- it is written, and the search goes on behind it
   pub runs-found : (xs : List Node) (v : ℕ) → ((x : Node) → hit x ≡ true → x .undecided ≡ 0) → Ordered xs → (sought hit A xs v ≡ noLeaf → ⊥) → (sought hit A xs v ≡ spent → ⊥) → n < length l
@@ -248,5 +239,5 @@ module _ (hit : Node → Bool) (A n : ℕ) (l : List ℕ) where
           ∙ ap (λ ys. runs hit A ys (on (n + 1) (v + 1) (set l n (x .word)))) (sym (behind x xs (o .1 (i x q))))
       go true false p q e f r =
           ap (runs hit A xs) (step-miss hit A x n v l (ltb-true _ _ p) q) ∙ r e f
-          ∙ rw (lt-ltb (x .word) (sought hit A xs (v + 1) + 1) (omega (arith, sought-above xs (x .word) (v + 1) (o .0) e f)))
+          ∙ rw (lt-ltb (x .word) (sought hit A xs (v + 1) + 1) (omega (arith, sought-holds (λ u. x .word ≤ u) (λ u. Unit {0}) (λ y i. tt) xs (v + 1) (o .0) e f .0)))
       go false c p q e f r = absurd (f refl)

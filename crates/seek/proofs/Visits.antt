@@ -1,6 +1,6 @@
 -- One node of the search, by the way it is left. Assumes nothing.
 use mathlib.Core.Path.{_≡_, refl, sym, ap, _∙_}
-use mathlib.Core.Bool.{Bool, true, false, cond, not, and-false}
+use mathlib.Core.Bool.{Bool, true, false, cond, not, _&&_, and-false}
 use mathlib.Core.Logic.{_⊎_, ⊎-elim}
 use mathlib.Core.List.{List, [], _∷_, _++_}
 use Prim.Native.Nat.{ℕ, zero, suc, _+_, _-_, _*_, _^_, _≤_, _<_}
@@ -10,12 +10,17 @@ use native.Mathlib.Omega.{arith}
 use lib.Dec.{eqb, ltb}
 use lib.Pow.{pow-pos, pow-mono}
 use borrow.Author.Tests.{lt-ltb, le-ltb, eq-eqb, ne-eqb, eqb-true, not-true, not-false}
-use Rattle.sets.proofs.Tests.{dec, both-true}
+use Rattle.sets.proofs.Tests.{dec, clash, both-true}
 use Rattle.program.specs.Clauses.{Clause}
 use Rattle.semantics.specs.Interpretations.{reduct, isModel, isStable}
-use Rattle.tree.specs.Tree.{Node, node, Dead, dead, nodes, isStableLeaf}
-use Rattle.seek.specs.Seek.{stops, counted, Ticked, Sought, Placed, AtNode, noLeaf, spent, fromWord, sought, after}
+use Rattle.tree.specs.Tree.{Node, node, Dead, nodes, isStableLeaf}
+use Rattle.tree.specs.declared.NodeStatus.{NodeStatus}
+use Rattle.tree.specs.declared.NodeStatus.the-variants.{Alive, Violated, Unsupported}
+use Rattle.tree.specs.NodeTest.{nodeTest, isDead, dead}
+use Rattle.node.specs.Node.{Placed, AtNode}
+use Rattle.seek.specs.Seek.{Resumes, stops, counted, Ticked, Sought, noLeaf, spent, fromWord, sought, after}
 use Rattle.tree.proofs.Nodes.{low-out, low-in, live-leaf}
+use Rattle.tree.proofs.Support.{alive-holds, dead-below}
 use Rattle.seek.proofs.Seeking.{All, all-map, all-fromWord, nodes-between, fromWord-append, fromWord-none, sought-append, sought-first}
 
 -- ---- the children of a node
@@ -101,12 +106,40 @@ leaf-is : (D : Dead) (P : List Clause) (k w : ℕ) → k ≡ 0 → D k w ≡ fal
 unfolding isStableLeaf
 leaf-is D P k w z d = rw (d, eq-eqb k 0 z)
 
+-- ---- the test of the node
+-- a node that was visited before, and below which the search goes on, is alive: a p-stable leaf was found there
+pub node-before : (P : List Clause) (k w x : ℕ) {count reach : ℕ} → AtNode count k w reach → Resumes P x → x ≤ reach → w < x → false ≡ dead P k w
+node-before P k w x at s h l = ⊎-elim
+    (λ d.
+    let e : w + (x - 1 - w) ≡ x - 1 = omega arith in
+    let i : x - 1 - w < 2 ^ k = omega (arith, at .reaches, pow-pos k) in
+    clash (isStable P (x - 1)) (s .found (λ z. omega arith)) (rw e at (dead-below P k w (x - 1 - w) (at .placed .low) i d)))
+    (λ f. sym f)
+    (dec (dead P k w))
+
+module _ (P : List Clause) (k w : ℕ) {s : NodeStatus} (e : s ≡ nodeTest P k w) where
+  pub node-alive : s ≡ Alive → false ≡ dead P k w
+  unfolding dead
+  node-alive q = ap isDead (sym q ∙ e)
+
+  pub node-violated : s ≡ Violated → true ≡ dead P k w
+  unfolding dead
+  node-violated q = ap isDead (sym q ∙ e)
+
+  pub node-unsupported : s ≡ Unsupported → true ≡ dead P k w
+  unfolding dead
+  node-unsupported q = ap isDead (sym q ∙ e)
+
 pub leaf-live : (P : List Clause) (k w : ℕ) {r : Bool} → r ≡ dead P k w → r ≡ false → k ≡ 0 → isModel (reduct P w) w ≡ true
-leaf-live P k w e t z = live-leaf P w ∙ ap not (rw z at (sym e) ∙ t)
+leaf-live P k w e t z = live-leaf P w ∙ ap not (alive-holds P 0 w (rw z at (sym e ∙ t)))
 
 pub leaf-undecided : (D : Dead) (P : List Clause) (x : Node) → isStableLeaf D P x ≡ true → x .undecided ≡ 0
 unfolding isStableLeaf
 leaf-undecided D P x h = eqb-true _ _ (both-true _ _ (both-true _ _ h .0) .0)
+
+pub leaf-stable : (D : Dead) (P : List Clause) (x : Node) → isStableLeaf D P x ≡ true → isStable P (x .word) ≡ true
+unfolding isStableLeaf
+leaf-stable D P x h = both-true (eqb (x .undecided) 0 && not (D (x .undecided) (x .word))) (isStable P (x .word)) h .1
 
 -- ---- a node is counted where it was not visited before
 module _ (A x w v : ℕ) where

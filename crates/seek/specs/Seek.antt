@@ -1,11 +1,13 @@
 -- The first p-stable leaf from a word on: what the recursion promises. Assumes nothing.
 use mathlib.Core.Path.{_≡_}
-use mathlib.Core.Bool.{Bool, cond, not, _&&_}
+use mathlib.Core.Bool.{Bool, true, cond, not, _&&_}
 use mathlib.Core.List.{List, [], _∷_}
-use Prim.Native.Nat.{ℕ, _+_, _-_, _%_, _^_, _≤_}
+use Prim.Native.Nat.{ℕ, _+_, _-_}
 use lib.Dec.{ltb}
 use Rattle.program.specs.Clauses.{Clause}
-use Rattle.tree.specs.Tree.{Node, dead, nodes, isStableLeaf}
+use Rattle.semantics.specs.Interpretations.{isStable}
+use Rattle.tree.specs.Tree.{Node, nodes, isStableLeaf}
+use Rattle.tree.specs.NodeTest.{dead}
 
 -- what is answered where no node is a hit, and where the node limit ended before one
 abbrev pub noLeaf : ℕ
@@ -37,6 +39,10 @@ pub record Sought (hit : Node → Bool) (A x : ℕ) (xs : List Node) (v r v′ :
 abbrev pub SoughtBelow : List Clause → (k w A x v r v′ : ℕ) → Type 0
 SoughtBelow P k w A x v r v′ = Sought (isStableLeaf (dead P) P) A x (nodes (dead P) k w) v r v′
 
+-- the search goes on at the word x: it is the first of all, or the one before it is p-stable
+pub record Resumes (P : List Clause) (x : ℕ) : Type 0 where
+  pub found : (x ≡ 0 → ⊥) → isStable P (x - 1) ≡ true
+
 -- ---- a node with the word w is counted where it was not visited before
 unfoldable pub stops : ℕ → ℕ → ℕ → ℕ → Bool
 stops A x w v = not (ltb w x) && not (ltb v A)
@@ -47,15 +53,3 @@ counted A x w v = cond (ltb w x) v (cond (ltb v A) (v + 1) v)
 pub record Ticked (A x w v : ℕ) (r : Bool) (v′ : ℕ) : Type 0 where
   pub stopped : r ≡ stops A x w v
   pub nodes : v′ ≡ counted A x w v
-
--- (k, w) is a node of a tree over at most twelve atoms
-pub record Placed (k w : ℕ) : Type 0 where
-  pub few : k ≤ 24
-  pub low : w % 2 ^ k ≡ 0
-  pub fits : w + 2 ^ k ≤ 2 ^ 24
-
--- what a visit of the node (k, w) is handed: at most 64 clauses, and the word with every undecided bit
-pub record AtNode (count k w reach : ℕ) : Type 0 where
-  pub short : count ≤ 64
-  pub placed : Placed k w
-  pub reaches : reach ≡ w + (2 ^ k - 1)

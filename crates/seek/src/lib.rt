@@ -1,26 +1,45 @@
 // The recursion over the tree: the first p-stable leaf from a word on.
 ghost use mathlib.Core.Path.{_≡_};
-ghost use Prim.Native.Nat.{_+_, _-_, _*_, _^_, _≤_};
+ghost use Prim.Native.Nat.{_-_, _*_, _^_, _≤_};
 ghost use Rattle.sets.specs.Lists.{tabulate};
-ghost use Rattle.tree.specs.Tree.{dead};
+ghost use Rattle.tree.specs.NodeTest.{possible, dead};
 ghost use Rattle.leaf.specs.Packed.{packedAt};
-ghost use Rattle.seek.specs.Seek.{Placed, AtNode, Ticked, SoughtBelow};
+ghost use Rattle.node.specs.Node.{Placed, AtNode};
+ghost use Rattle.seek.specs.Seek.{Resumes, Ticked, SoughtBelow};
+use tree::NodeStatus;
 
-// ---- the node test
+// ---- a node
 // The word with every undecided bit.
 fn with_undecided(k: usize, w: u32) -> u32
     requires { ⌜ Placed k w ⌝ }
-    ensures { λ r. ⌜ r ≡ w + (2 ^ k - 1) ⌝ }
+    ensures { λ r. ⌜ r ≡ possible k w ⌝ }
 {
     w + ((1 << k) - 1)
 }
 
 // Whether the node is dead, where `reach` is the word with every undecided bit.
-fn node_dead(table: &[u32; leaf::WORDS], count: usize, k: usize, w: u32, reach: u32) -> bool
+// One that was visited before is not: a p-stable leaf was found below it, and it need not be tested again.
+fn node_dead(
+    table: &[u32; leaf::WORDS],
+    count: usize,
+    k: usize,
+    w: u32,
+    reach: u32,
+    from: u32,
+) -> bool
     requires { ⌜ AtNode count k w reach ⌝ }
+    requires { ⌜ Resumes (tabulate (packedAt (now table)) count) from ⌝ }
+    requires { ⌜ from ≤ reach ⌝ }
     ensures { λ r. ⌜ r ≡ dead (tabulate (packedAt (now (table .entry))) count) k w ⌝ }
 {
-    leaf::some_rules_out(table, count, reach, w, reach)
+    if from > w {
+        return false;
+    }
+    match node::test(table, count, k, w, reach) {
+        NodeStatus::Alive => false,
+        NodeStatus::Violated => true,
+        NodeStatus::Unsupported => true,
+    }
 }
 
 // ---- the tree
@@ -66,6 +85,7 @@ fn seek(
     visited: &mut u64,
 ) -> u32
     requires { ⌜ AtNode count k w reach ⌝ }
+    requires { ⌜ Resumes (tabulate (packedAt (now table)) count) from ⌝ }
     ensures { λ r. ⌜ SoughtBelow (tabulate (packedAt (now (table .entry))) count) k w «node_limit» from (now (visited .entry)) r (now (visited .exit)) ⌝ }
 {
     if reach < from {
@@ -74,7 +94,7 @@ fn seek(
     if tick(w, from, node_limit, visited) {
         return SPENT;
     }
-    if node_dead(table, count, k, w, reach) {
+    if node_dead(table, count, k, w, reach, from) {
         return NONE;
     }
     if k == 0 {
@@ -119,6 +139,7 @@ pub fn first_leaf(
     visited: &mut u64,
 ) -> u32
     requires { ⌜ (count ≤ 64) × (n ≤ 12) ⌝ }
+    requires { ⌜ Resumes (tabulate (packedAt (now table)) count) from ⌝ }
     ensures { λ r. ⌜ SoughtBelow (tabulate (packedAt (now (table .entry))) count) (2 * n) 0 «node_limit» from (now (visited .entry)) r (now (visited .exit)) ⌝ }
 {
     let k = 2 * n;

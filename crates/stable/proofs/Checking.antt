@@ -8,7 +8,7 @@ use lib.Dec.{eqb, eqb·zero-suc, eqb·suc-suc}
 use lib.Bits.{bitAnd, and-le-r, and-zero-l}
 use lib.ListN.{length, getD}
 use borrow.Author.Tests.{lt-ltb, le-ltb, eq-eqb, ne-eqb}
-use Rattle.sets.specs.Lists.{every, sift, tabulate}
+use Rattle.sets.specs.Lists.{every, anyOf, sift, tabulate}
 use Rattle.sets.specs.Words.{Inside, Next, inside, apart, nextSubset}
 use Rattle.sets.specs.Least.{least}
 use Rattle.sets.proofs.Least.{Searched, miss, leap, least-suc}
@@ -47,7 +47,16 @@ model-cons c P I w = go (apart (c .naf) I) (strip-violates w c)
         same false d = refl
     go false e = rw (and-false (inside (c .body) w))
 
--- a word satisfies the reduct where no clause is violated
+-- a word satisfies the reduct where no clause is violated: none of them, and by the number of the least
+pub model-some : (P : List Clause) (I w : ℕ) → isModel (reduct P I) w ≡ not (anyOf (violates I w) P)
+unfolding anyOf isModel reduct every sift
+model-some [] I w = refl
+model-some (c ∷ P) I w = model-cons c P I w ∙ rw (model-some P I w) (go (violates I w c) (anyOf (violates I w) P))
+  where
+    go : (a b : Bool) → not a && not b ≡ not (a || b)
+    go true b = refl
+    go false b = refl
+
 pub model-least : (P : List Clause) (I w : ℕ) → eqb (least (violatedAt P I w) (length P)) (length P) ≡ isModel (reduct P I) w
 unfolding violatedAt least reduct sift isModel every
 model-least [] I w = refl

@@ -1,6 +1,6 @@
--- Nodes and their words, dead nodes, and the p-stable leaves of a tree. Assumes nothing.
-use mathlib.Core.Path.{_≡_, refl, sym, ap, _∙_}
-use mathlib.Core.Bool.{Bool, true, false, cond, not, _&&_, _||_, and-false}
+-- Nodes and their words, violated nodes, and the p-stable leaves of a tree. Assumes nothing.
+use mathlib.Core.Path.{_≡_, refl, sym, ap, _∙_, fun-ext}
+use mathlib.Core.Bool.{Bool, true, false, cond, not, _&&_}
 use mathlib.Core.List.{List, [], _∷_, _++_}
 use Prim.Native.Nat.{ℕ, zero, suc, _+_, _-_, _*_, _/_, _%_, _^_, _<_}
 use native.Mathlib.Nat.{pow-suc, add-zero, mod-one, mod-mod, mod-lt, add-mod-right, zero-mod}
@@ -12,12 +12,13 @@ use lib.ListN.{length, length-append}
 use borrow.Author.Tests.{eqb-true, eq-eqb}
 use Rattle.sets.specs.Lists.{anyOf, sift, upFrom, tabulate, below}
 use Rattle.sets.specs.Words.{inside, apart}
-use Rattle.sets.proofs.Tests.{clash, both-true, and-is-true}
-use Rattle.sets.proofs.Lists.{upFrom-add, upFrom-in, sift-append, sift-none}
+use Rattle.sets.proofs.Tests.{both-true, and-is-true}
+use Rattle.sets.proofs.Lists.{some-in, in-some, upFrom-add, upFrom-in, sift-append, sift-none}
 use Rattle.program.specs.Clauses.{Clause}
 use Rattle.semantics.specs.Interpretations.{reduct, isModel, violates, isStable, models}
-use Rattle.stable.proofs.Checking.{model-cons}
-use Rattle.tree.specs.Tree.{Node, node, Dead, decided, deadBy, dead, nodes, tree, isStableLeaf, hits, stableLeaves}
+use Rattle.stable.proofs.Checking.{model-some}
+use Rattle.tree.specs.Tree.{Node, node, Dead, nodes, tree, isStableLeaf, hits, stableLeaves}
+use Rattle.tree.specs.NodeTest.{decided, violatedBy, violated}
 
 -- ---- a word whose k low bits are zero, and r below 2 ^ k put there
 and-blocks : (k a s b r : ℕ) → s < 2 ^ k → r < 2 ^ k → bitAnd (a * 2 ^ k + s) (b * 2 ^ k + r) ≡ bitAnd (a * 2 ^ k + s) (b * 2 ^ k + 0) + bitAnd s r
@@ -43,7 +44,7 @@ low-out k w z = let e : 1 + k ≡ suc k = omega arith in sym (mod-mod-pow w 1 k)
 pub low-in : (k w : ℕ) → w % 2 ^ suc k ≡ 0 → (w + 2 ^ k) % 2 ^ k ≡ 0
 low-in k w z = add-mod-right w (2 ^ k) ∙ low-out k w z
 
--- ---- a leaf below a dead node does not satisfy the reduct by itself
+-- ---- a leaf below a violated node does not satisfy the reduct by itself
 module _ (k w r : ℕ) (z : w % 2 ^ k ≡ 0) (h : r < 2 ^ k) where
   in-below : (x : ℕ) → decided k x && inside x w ≡ true → inside x (w + r) ≡ true
   in-below x t = let b = both-true _ _ t in eq-eqb _ _ (and-decided k x w r z h (eqb-true _ _ (b .0)) ∙ eqb-true _ _ (b .1))
@@ -51,43 +52,30 @@ module _ (k w r : ℕ) (z : w % 2 ^ k ≡ 0) (h : r < 2 ^ k) where
   out-below : (x : ℕ) → decided k x && apart x w ≡ true → apart x (w + r) ≡ true
   out-below x t = let b = both-true _ _ t in eq-eqb _ _ (and-decided k x w r z h (eqb-true _ _ (b .0)) ∙ eqb-true _ _ (b .1))
 
-  violated-below : (c : Clause) → deadBy k w c ≡ true → violates (w + r) (w + r) c ≡ true
-  unfolding deadBy violates
+  violated-below : (c : Clause) → violatedBy k w c ≡ true → violates (w + r) (w + r) c ≡ true
+  unfolding violatedBy violates
   violated-below c t =
       let b = both-true _ _ t in
       let a = both-true _ _ (b .0) in
       and-is-true _ _ (and-is-true _ _ (in-below (c .body) (a .0)) (out-below (c .naf) (a .1))) (out-below (c .head) (b .1))
 
-  no-model-below : (P : List Clause) → dead P k w ≡ true → isModel (reduct P (w + r)) (w + r) ≡ false
-  unfolding dead anyOf
-  no-model-below [] t = clash false t refl
-  no-model-below (c ∷ P) t = model-cons c P (w + r) (w + r) ∙ go (deadBy k w c) refl t (no-model-below P)
-    where
-      go : (b : Bool) → deadBy k w c ≡ b → b || anyOf (deadBy k w) P ≡ true → (anyOf (deadBy k w) P ≡ true → isModel (reduct P (w + r)) (w + r) ≡ false)
-          → not (violates (w + r) (w + r) c) && isModel (reduct P (w + r)) (w + r) ≡ false
-      go true e t f = rw (violated-below c e)
-      go false e t f = rw (f t) (and-false (not (violates (w + r) (w + r) c)))
+  pub unstable-below : (P : List Clause) → violated P k w ≡ true → isStable P (w + r) ≡ false
+  unfolding violated isStable
+  unstable-below P t =
+      let c = some-in (violatedBy k w) P t in
+      rw (model-some P (w + r) (w + r), in-some (violates (w + r) (w + r)) P (c .0) (c .1) (violated-below (c .0) (c .2)))
 
-  pub unstable-below : (P : List Clause) → dead P k w ≡ true → isStable P (w + r) ≡ false
-  unfolding isStable
-  unstable-below P t = rw (no-model-below P t)
-
--- ---- a leaf is dead exactly where it does not satisfy the reduct by itself
+-- ---- a leaf is violated exactly where it does not satisfy the reduct by itself
 settled-leaf : (x : ℕ) (b : Bool) → decided 0 x && b ≡ b
 settled-leaf x b = rw (eq-eqb _ _ (mod-one x))
 
-dead-one : (w : ℕ) (c : Clause) → deadBy 0 w c ≡ violates w w c
-unfolding deadBy violates
-dead-one w c = rw (settled-leaf (c .body), settled-leaf (c .naf), settled-leaf (c .head))
+violated-one : (w : ℕ) (c : Clause) → violatedBy 0 w c ≡ violates w w c
+unfolding violatedBy violates
+violated-one w c = rw (settled-leaf (c .body), settled-leaf (c .naf), settled-leaf (c .head))
 
-not-or : (a b : Bool) → not (a || b) ≡ not a && not b
-not-or true b = refl
-not-or false b = refl
-
-pub live-leaf : (P : List Clause) (w : ℕ) → isModel (reduct P w) w ≡ not (dead P 0 w)
-unfolding dead anyOf isModel reduct
-live-leaf [] w = refl
-live-leaf (c ∷ P) w = model-cons c P w w ∙ rw (live-leaf P w, dead-one w c) (sym (not-or (violates w w c) (dead P 0 w)))
+pub live-leaf : (P : List Clause) (w : ℕ) → isModel (reduct P w) w ≡ not (violated P 0 w)
+unfolding violated
+live-leaf P w = model-some P w w ∙ ap (λ (f : Clause → Bool). not (anyOf f P)) (sym (fun-ext (violated-one w)))
 
 -- ---- the p-stable leaves of a tree, for a dead test below whose dead nodes no leaf is p-stable
 pub hits-append : (hit : Node → Bool) (xs ys : List Node) → hits hit (xs ++ ys) ≡ hits hit xs ++ hits hit ys
@@ -105,16 +93,16 @@ unfolding isStableLeaf
 not-leaf D P k w = rw (eqb·suc-zero k)
 
 -- the numbers from w on, 2 ^ k of them, that are p-stable
-abbrev stableFrom : List Clause → ℕ → ℕ → List ℕ
+abbrev pub stableFrom : List Clause → ℕ → ℕ → List ℕ
 stableFrom P k w = sift (isStable P) (upFrom (λ i. i) (2 ^ k) w)
 
-from-double : (P : List Clause) (k w : ℕ) → stableFrom P (suc k) w ≡ stableFrom P k w ++ stableFrom P k (w + 2 ^ k)
+pub from-double : (P : List Clause) (k w : ℕ) → stableFrom P (suc k) w ≡ stableFrom P k w ++ stableFrom P k (w + 2 ^ k)
 from-double P k w =
     let e : 2 ^ suc k ≡ 2 ^ k + 2 ^ k = omega (arith, pow-suc 2 k) in
     rw (e, upFrom-add (λ (i : ℕ). i) (2 ^ k) (2 ^ k) w) (sift-append (isStable P) (upFrom (λ i. i) (2 ^ k) w) (upFrom (λ i. i) (2 ^ k) (w + 2 ^ k)))
 
 module _ (D : Dead) (P : List Clause) (harmless : (k w r : ℕ) → w % 2 ^ k ≡ 0 → D k w ≡ true → r < 2 ^ k → isStable P (w + r) ≡ false) where
-  none-from : (k w : ℕ) → w % 2 ^ k ≡ 0 → D k w ≡ true → stableFrom P k w ≡ []
+  pub none-from : (k w : ℕ) → w % 2 ^ k ≡ 0 → D k w ≡ true → stableFrom P k w ≡ []
   none-from k w z d = sift-none (isStable P) (upFrom (λ i. i) (2 ^ k) w) (λ x m.
       let r = upFrom-in (λ (i : ℕ). i) (2 ^ k) w x m in
       let l = r .1 in
@@ -131,7 +119,7 @@ module _ (D : Dead) (P : List Clause) (harmless : (k w r : ℕ) → w % 2 ^ k �
       go true e = sym (rw add-zero at (harmless 0 w 0 (mod-one w) e (omega arith)))
       go false e = refl
 
-  leaves-from : (k w : ℕ) → w % 2 ^ k ≡ 0 → stableLeaves D P (nodes D k w) ≡ stableFrom P k w
+  pub leaves-from : (k w : ℕ) → w % 2 ^ k ≡ 0 → stableLeaves D P (nodes D k w) ≡ stableFrom P k w
   unfolding nodes hits sift upFrom
   leaves-from zero w z = rw (stable-is-leaf w)
   leaves-from (suc k) w z = rw (not-leaf D P k w) (go (D (suc k) w) refl (leaves-from k w (low-out k w z)) (leaves-from k (w + 2 ^ k) (low-in k w z)))

@@ -21,9 +21,11 @@ use Rattle.semantics.specs.Definitions.{PStable}
 use Rattle.semantics.specs.Interpretations.{rulesOf, isStable, models}
 use Rattle.stable.proofs.Decides.{stable-PStable, PStable-stable}
 use Rattle.program.specs.declared.Outcome.the-variants.{Complete, Full, Spent, Refused}
-use Rattle.tree.specs.Tree.{Node, Dead, dead, tree, nodeCount, hits, stableLeaves}
+use Rattle.tree.specs.Tree.{Node, Dead, tree, nodeCount, hits, stableLeaves}
+use Rattle.tree.specs.NodeTest.{dead}
 use Rattle.tree.specs.Answer.{answer, overfull, fullAt, runAnswer, listing, runExit, leafOf, nodesOf, refusal, answerOf, exitOf, listed}
-use Rattle.tree.proofs.Nodes.{hits-append, leaves-models, unstable-below, count-nodes}
+use Rattle.tree.proofs.Nodes.{hits-append, leaves-models, count-nodes}
+use Rattle.tree.proofs.Support.{dead-below}
 
 -- ---- the tree
 -- no leaf below a node that D calls dead is p-stable
@@ -37,9 +39,9 @@ leaves-are-models D n P h = leaves-models D P (λ k w r z d l. ⊎-elim
     (λ f. f)
     (dec (isStable P (w + r)))) n
 
--- document 01's dead test is such a test
+-- the node test is such a test
 pub dead-harmless : (P : List Clause) → Harmless (dead P) P
-dead-harmless P k w r z d l s = clash (isStable P (w + r)) (PStable-stable P (w + r) s) (unstable-below k w r z l P d)
+dead-harmless P k w r z d l s = clash (isStable P (w + r)) (PStable-stable P (w + r) s) (dead-below P k w r z l d)
 
 -- "N is at most 2^(2n+1) - 1"
 pub node-count : (D : Dead) (n : ℕ) → nodeCount D n ≤ 2 ^ (2 * n + 1) - 1
@@ -62,7 +64,7 @@ module _ (hit : Node → Bool) (xs : List Node) (A : ℕ) where
       go false e true = ap length (sym (take-all L (hits hit (take A xs)) (ltb-false _ _ e)))
       go false e false = ap length (sym (take-all L (hits hit (take A xs)) (ltb-false _ _ e)))
 
-  listing-begins : (L : ℕ) → Begins (listing hit xs A L) (hits hit xs)
+  pub listing-begins : (L : ℕ) → Begins (listing hit xs A L) (hits hit xs)
   unfolding listing
   listing-begins L =
       begins-take L (hits hit (take A xs)) (hits hit xs)

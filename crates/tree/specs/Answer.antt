@@ -13,7 +13,8 @@ use Rattle.program.specs.Refusals.{lowest}
 use Rattle.program.specs.declared.Outcome.{Outcome}
 use Rattle.program.specs.declared.Outcome.the-variants.{Complete, Full, Spent, Refused}
 use Rattle.tree.specs.declared.SearchAnswer.{SearchAnswer}
-use Rattle.tree.specs.Tree.{Node, Dead, dead, tree, isStableLeaf, hits}
+use Rattle.tree.specs.Tree.{Node, Dead, tree, isStableLeaf, hits}
+use Rattle.tree.specs.NodeTest.{dead}
 
 -- "The answer has outcome, models written and nodes visited."
 abbrev pub answer : Outcome → ℕ → ℕ → SearchAnswer

@@ -1,11 +1,9 @@
--- The tree of a search: nodes, dead nodes, the nodes in visiting order, the p-stable leaves among them. Assumes nothing.
+-- The tree of a search under a test of dead nodes: the nodes in visiting order, the p-stable leaves among them. Assumes nothing.
 use mathlib.Core.Bool.{Bool, cond, not, _&&_}
 use mathlib.Core.List.{List, [], _∷_, _++_}
-use Prim.Native.Nat.{ℕ, zero, suc, _+_, _*_, _%_, _^_}
+use Prim.Native.Nat.{ℕ, zero, suc, _+_, _*_, _^_}
 use lib.Dec.{eqb}
 use lib.ListN.{length}
-use Rattle.sets.specs.Lists.{anyOf}
-use Rattle.sets.specs.Words.{inside, apart}
 use Rattle.program.specs.Clauses.{Clause}
 use Rattle.semantics.specs.Interpretations.{isStable}
 
@@ -20,22 +18,6 @@ node k w = record { undecided = k; word = w }
 -- a test that says which nodes are dead, by count and word
 abbrev pub Dead : Type 0
 Dead = ℕ → ℕ → Bool
-
--- every literal of x is decided where k low bits are not
-abbrev pub decided : ℕ → ℕ → Bool
-decided k x = eqb (x % 2 ^ k) 0
-
--- "every body literal is decided and in w, every not-literal decided and out of w, and every head literal decided and out of w"
-unfoldable pub deadBy : ℕ → ℕ → Clause → Bool
-deadBy k w c =
-    (decided k (c .body) && inside (c .body) w)
-    && (decided k (c .naf) && apart (c .naf) w)
-    && (decided k (c .head) && apart (c .head) w)
-
--- "A node is dead when for some clause" that is so.
-unfoldable pub dead : List Clause → Dead
-unfolding anyOf deadBy
-dead P k w = anyOf (deadBy k w) P
 
 -- The nodes below (k, w) for a dead test D. "A live node with k > 0 has two children, bit k-1 out first, then in.
 -- Nodes are visited a parent before its children, the first child's whole tree before the second."

@@ -1,10 +1,11 @@
-// Tries the engine from outside, by its public calls alone, on books with stored models, on lists with stored summaries and on candidates with stored answers: a line for each family says how many were tried and how many agree.
+// Tries the engine from outside, by its public calls alone, on books with stored models, on lists with stored summaries, on candidates with stored answers and on trees with stored counts: a line for each family says how many were tried and how many agree.
 // What is asked of a book stands in a file for each family, and the calls themselves in `asking`.
 // The first disagreement is printed with both answers and its record's label, and ends the program.
 mod asking;
 mod candidates;
 mod checks;
 mod fixpoints;
+mod nodes;
 mod saying;
 mod searches;
 mod summaries;
@@ -32,6 +33,7 @@ enum Family {
     Candidates,
     Summaries,
     Checks,
+    Nodes,
 }
 
 // What is stored in a file beside each book.
@@ -39,6 +41,7 @@ enum Stored {
     Models,
     Summaries,
     Checks,
+    Nodes,
 }
 
 fn tried_if(agrees: bool) -> Tried {
@@ -57,6 +60,7 @@ fn ask(family: Family, text: &[u8], words: &[u32]) -> Tried {
         Family::Candidates => tried_if(candidates::agrees(p, words)),
         Family::Summaries => tried_if(summaries::agrees(p, words)),
         Family::Checks => tried_if(checks::agrees(p, words)),
+        Family::Nodes => tried_if(nodes::agrees(p, words)),
     }
 }
 
@@ -183,6 +187,7 @@ fn print_family(family: Family) {
         Family::Candidates => saying::print(b"  candidates checked: "),
         Family::Summaries => saying::print(b"  summed up: "),
         Family::Checks => saying::print(b"  checks, with clause and subset: "),
+        Family::Nodes => saying::print(b"  nodes counted: "),
     }
 }
 
@@ -236,25 +241,16 @@ fn try_file(path: &[u8], stored: Stored) -> bool {
         Stored::Models => try_families(&file[..n]),
         Stored::Summaries => try_family(Family::Summaries, &file[..n]),
         Stored::Checks => try_family(Family::Checks, &file[..n]),
+        Stored::Nodes => try_family(Family::Nodes, &file[..n]),
     }
 }
 
-// The numbers of nodes that document 01 gives.
-fn try_nodes() -> bool {
-    searches::has_nodes(asking::table_of(b"a\n"), 7)
-        && searches::has_nodes(asking::table_of(b"fell due\n1 0\n2 0\n16 1\n"), 23)
-}
-
-// Document 01's samples, the paper's examples, random books with the models that an outside solver gives, lists with their summaries, and candidates with their answers.
+// Document 01's samples, the paper's examples, random books with the models that an outside solver gives, lists with their summaries, candidates with their answers, and trees with their counts.
 fn main() {
-    if try_file(b"samples", Stored::Models)
+    let _ = try_file(b"samples", Stored::Models)
         && try_file(b"paper", Stored::Models)
         && try_file(b"solver", Stored::Models)
         && try_file(b"summaries", Stored::Summaries)
         && try_file(b"checks", Stored::Checks)
-        && try_nodes()
-    {
-        saying::print(b"node counts: ");
-        print_counts(2);
-    }
+        && try_file(b"nodes", Stored::Nodes);
 }

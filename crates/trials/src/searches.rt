@@ -90,6 +90,6 @@ pub fn lists_all(p: Program, words: &[u32]) -> bool {
 }
 
 // Whether the tree has so many nodes.
-pub fn has_nodes(p: Program, nodes: u64) -> bool {
+fn has_nodes(p: Program, nodes: u64) -> bool {
     saying::is_number(answers::SEARCH, nodes, asking::nodes_of(p), 0)
 }

@@ -1,9 +1,8 @@
--- `leaf::leaf_stable` meets its contract: `leaf-unsupported` where a literal has no support, else `leaf-tested`. Assumes nothing.
+-- `leaf::leaf_stable` meets its contract by `leaf-tested`: of all subsets none is smaller. Assumes nothing.
 use borrow.Author.Needs.{needs}
-use Rattle.leaf.proofs.Loops.{leaf-unsupported}
 use Rattle.leaf.proofs.Subsets.{all-open, leaf-tested}
 use Rattle.leaf.proofs.leaf_stable.Statement.{statement}
 use Rattle.leaf.proofs.leaf_stable.Tie as tie
 
 pub leaf-stable-spec : {M : Type 1} → statement M
-leaf-stable-spec = tie.close (tie.spec (λ c. search needs) (λ c. search leaf-unsupported) (λ c κs. (search needs, search all-open)) (λ c. search leaf-tested))
+leaf-stable-spec = tie.close (tie.spec (λ c κs. (search needs, search all-open)) (λ c. search leaf-tested))

@@ -1,5 +1,5 @@
 -- `leaf::rules_out` meets its contract: three words are zero where their union is (`ruled-out`). Assumes nothing.
-use Rattle.leaf.proofs.Loops.{ruled-out}
+use Rattle.leaf.proofs.Words.{ruled-out}
 use native.Mathlib.Omega.{arith}
 use lib.Bits.{and-le-l}
 use Rattle.leaf.proofs.rules_out.Statement.{statement}

@@ -2,7 +2,7 @@
 use Prim.Native.Nat.{_-_, _^_}
 use borrow.Author.Needs.{needs}
 use Rattle.sets.specs.Lists.{tabulate}
-use Rattle.tree.specs.Tree.{dead}
+use Rattle.tree.specs.NodeTest.{dead}
 use Rattle.leaf.specs.Packed.{packedAt}
 use Rattle.search.proofs.Turns.{Searching, turn-start, turn-next, turn-below, turn-falls, turn-none, turn-spent, turn-full}
 use Rattle.search.proofs.search_clauses.Statement.{statement}

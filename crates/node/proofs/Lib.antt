@@ -1,0 +1,3 @@
+-- What is proved of the test of a node.
+pub mod Words
+pub mod Passing
