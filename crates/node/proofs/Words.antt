@@ -1,6 +1,6 @@
 -- The test of one clause at a node on words: every undecided bit is put into the word. Assumes nothing.
 use mathlib.Core.Path.{_≡_, refl, sym, ap, _∙_, subst}
-use mathlib.Core.Bool.{Bool, true, false, cond, not, _&&_, and-false}
+use mathlib.Core.Bool.{Bool, true, false, not, _&&_, and-false}
 use mathlib.Core.Logic.{_⊎_, ⊎-elim}
 use Prim.Native.Nat.{ℕ, zero, suc, _+_, _-_, _/_, _%_, _^_, _<_}
 use native.Mathlib.Nat.{add-zero, add-suc, mod-self, pow-suc, eq-zero-or-pos}
@@ -9,7 +9,7 @@ use lib.Dec.{T, eqb, eqb·suc-zero}
 use lib.Bits.{bitAnd, bitOr, and-mod, and-mask, and-self, and-step, and-zero-l, and-zero-r}
 use borrow.Author.Tests.{eqb-true, eq-eqb, ne-eqb, not-true}
 use Rattle.sets.specs.Words.{digit, bit, Inside, Apart, inside, apart}
-use Rattle.sets.proofs.Tests.{dec, clash, both-true, and-is-true, T-true, true-T, T-ext, not-T-false}
+use Rattle.sets.proofs.Tests.{clash, both-true, and-is-true, T-true, true-T, T-ext, T-and, T-and-l, T-and-r, not-T-false}
 use Rattle.sets.proofs.Digits.{digit-zero, bit-digit, bit-zero, inside-bits, bits-ext}
 use Rattle.sets.proofs.Branches.{both-in, in-both, in-pow}
 use Rattle.program.specs.Clauses.{Clause, clauseOf}
@@ -18,7 +18,7 @@ use Rattle.tree.specs.NodeTest.{decided, violatedBy, possible, couldSupport}
 use Rattle.tree.proofs.Nodes.{and-reach}
 use Rattle.leaf.specs.Leaf.{rulesOut}
 use Rattle.leaf.proofs.Words.{or-zero, out-zero}
-use Rattle.node.specs.Node.{supports}
+use Rattle.node.specs.Node.{Gathers}
 
 -- ---- a clause is violated where it rules out every word from w to the one with every undecided bit
 in-settled : (k w x : ℕ) → w % 2 ^ k ≡ 0 → decided k x && inside x w ≡ inside x w
@@ -63,82 +63,80 @@ one-bit (suc L) x e d = ⊎-elim
     (eq-zero-or-pos (x % 2))
 
 -- ---- the support of one clause
+module _ (k w : ℕ) (c : Clause) where
+  -- the head literals that are in
+  abbrev met : ℕ
+  met = bitAnd (c .head) w
+
+  -- one at most, none of it in the body, and nothing decided against the clause
+  abbrev fires : Bool
+  fires = inside (c .body) (possible k w) && apart (c .naf) w && apart met (met - 1) && apart met (c .body)
+
+  module _ (L : ℕ) where
+    could : fires ≡ true → T (bit met L) → couldSupport k w L c ≡ true
+    unfolding couldSupport
+    could f t =
+        let a = both-true _ _ f in
+        let b = both-true _ _ (a .0) in
+        let d = both-true _ _ (b .0) in
+        let one : met ≡ 2 ^ L = one-bit L met (eqb-true _ _ (b .1)) (bit-digit met L t) in
+        let not-body : bit (c .body) L ≡ false = not-T-false _ (λ u. apart-none met (c .body) .0 (eqb-true _ _ (a .1)) L t u) in
+        and-is-true _ _
+        (and-is-true _ _ (and-is-true (bit (c .head) L) (not (bit (c .body) L)) (T-true (bit (c .head) L) (in-both (c .head) w L t .0)) (ap not not-body)) (d .0))
+        (and-is-true _ _ (d .1) (eq-eqb _ _ (ap (λ x. bitAnd x (2 ^ L)) one ∙ and-self (2 ^ L) ∙ sym one)))
+
+    does : T (bit w L) → couldSupport k w L c ≡ true → (fires ≡ true) × T (bit met L)
+    unfolding couldSupport
+    does u h =
+        let a = both-true _ _ h in
+        let b = both-true _ _ (a .0) in
+        let p = both-true (bit (c .head) L) (not (bit (c .body) L)) (b .0) in
+        let q = both-true _ _ (a .1) in
+        let t : T (bit met L) = both-in (c .head) w L (true-T (bit (c .head) L) (p .0)) u in
+        let one : met ≡ 2 ^ L = bits-ext met (2 ^ L) (inside-bits met (2 ^ L) .0 (eqb-true _ _ (q .1))) (λ M v. subst (λ (x : ℕ). T (bit met x)) (sym (in-pow L M v)) t) in
+        let lower : Apart met (met - 1) = rw one (and-mask (2 ^ L) L ∙ mod-self (2 ^ L)) in
+        let body : Apart met (c .body) = rw one (apart-none (2 ^ L) (c .body) .1 (λ M i j.
+        clash (bit (c .body) L) (T-true _ (subst (λ (x : ℕ). T (bit (c .body) x)) (in-pow L M i) j)) (not-true (bit (c .body) L) (p .1)))) in
+        (and-is-true _ _ (and-is-true _ _ (and-is-true _ _ (b .1) (q .0)) (eq-eqb _ _ lower)) (eq-eqb _ _ body), t)
+
+  gathers-one : fires ≡ true → Gathers k w c met
+  gathers-one f = record {
+    exactly = λ L. T-ext _ _
+        (λ t. T-and (bit w L) (couldSupport k w L c) (in-both (c .head) w L t .1) (true-T _ (could L f t)))
+        (λ t. does L (T-and-l (bit w L) (couldSupport k w L c) t) (T-true _ (T-and-r (bit w L) (couldSupport k w L c) t)) .1);
+  }
+
+  gathers-none : fires ≡ false → Gathers k w c 0
+  gathers-none f = record {
+    exactly = λ L. T-ext _ _
+        (λ t. clash (bit 0 L) (T-true (bit 0 L) t) (bit-zero L))
+        (λ t. clash fires (does L (T-and-l (bit w L) (couldSupport k w L c) t) (T-true _ (T-and-r (bit w L) (couldSupport k w L c) t)) .0) f);
+  }
+
 -- one less, but for zero, which is apart from everything
 lower-is : (x y : ℕ) → (y + 1) % 2 ^ 32 ≡ x → y < 2 ^ 32 → bitAnd x y ≡ bitAnd x (x - 1)
 lower-is zero y e l = rw (and-zero-l y)
 lower-is (suc x) y e l = let q : y ≡ suc x - 1 = omega arith in ap (bitAnd (suc x)) q
 
-module _ (h b n w reach x y : ℕ) (e : x ≡ bitAnd h w) (m : (y + 1) % 2 ^ 32 ≡ x) (l : y < 2 ^ 32) where
-  tested : eqb (bitOr (bitOr (bitOr (b - bitAnd b reach) (bitAnd n w)) (bitAnd x y)) (bitAnd x b)) 0 ≡ (inside b reach && apart n w && apart x (x - 1) && apart x b)
-  tested =
-      rw (
-        or-zero (bitOr (bitOr (b - bitAnd b reach) (bitAnd n w)) (bitAnd x y)) (bitAnd x b),
-        or-zero (bitOr (b - bitAnd b reach) (bitAnd n w)) (bitAnd x y),
-        or-zero (b - bitAnd b reach) (bitAnd n w),
-        out-zero b reach,
-        lower-is x y m l,
-      )
+-- the four tests as one, where y is one less than what is met
+module _ (h b n k w reach y : ℕ) where
+  abbrev joined : ℕ
+  joined = bitOr (bitOr (bitOr (b - bitAnd b reach) (bitAnd n w)) (bitAnd (bitAnd h w) y)) (bitAnd (bitAnd h w) b)
 
-  pub is-support : bitOr (bitOr (bitOr (b - bitAnd b reach) (bitAnd n w)) (bitAnd x y)) (bitAnd x b) ≡ 0 → x ≡ supports w reach (clauseOf h b n)
-  unfolding supports
-  is-support z = rw (← e, sym tested ∙ eq-eqb _ 0 z)
+  module _ (s : reach ≡ possible k w) (m : (y + 1) % 2 ^ 32 ≡ bitAnd h w) (l : y < 2 ^ 32) where
+    tested : eqb joined 0 ≡ fires k w (clauseOf h b n)
+    tested =
+        rw (
+          or-zero (bitOr (bitOr (b - bitAnd b reach) (bitAnd n w)) (bitAnd (bitAnd h w) y)) (bitAnd (bitAnd h w) b),
+          or-zero (bitOr (b - bitAnd b reach) (bitAnd n w)) (bitAnd (bitAnd h w) y),
+          or-zero (b - bitAnd b reach) (bitAnd n w),
+          out-zero b reach,
+          lower-is (bitAnd h w) y m l,
+          s,
+        )
 
-  pub no-support : (bitOr (bitOr (bitOr (b - bitAnd b reach) (bitAnd n w)) (bitAnd x y)) (bitAnd x b) ≡ 0 → ⊥) → 0 ≡ supports w reach (clauseOf h b n)
-  unfolding supports
-  no-support z = rw (← e, sym tested ∙ ne-eqb _ 0 z)
+  pub is-support : joined ≡ 0 → reach ≡ possible k w → (y + 1) % 2 ^ 32 ≡ bitAnd h w → y < 2 ^ 32 → Gathers k w (clauseOf h b n) (bitAnd h w)
+  is-support z s m l = gathers-one k w (clauseOf h b n) (sym (tested s m l) ∙ eq-eqb _ 0 z)
 
--- it is the literals of w that the clause could support
-module _ (k w L : ℕ) (c : Clause) where
-  abbrev met : ℕ
-  met = bitAnd (c .head) w
-
-  abbrev fires : Bool
-  fires = inside (c .body) (possible k w) && apart (c .naf) w && apart met (met - 1) && apart met (c .body)
-
-  -- the only literal that is met is L
-  only : (Inside met (2 ^ L) → T (bit met L) → met ≡ 2 ^ L)
-  only i t = bits-ext met (2 ^ L) (inside-bits met (2 ^ L) .0 i) (λ M u. subst (λ (x : ℕ). T (bit met x)) (sym (in-pow L M u)) t)
-
-  could : fires ≡ true → T (bit met L) → couldSupport k w L c ≡ true
-  unfolding couldSupport
-  could f t =
-      let a = both-true _ _ f in
-      let b = both-true _ _ (a .0) in
-      let d = both-true _ _ (b .0) in
-      let one : met ≡ 2 ^ L = one-bit L met (eqb-true _ _ (b .1)) (bit-digit met L t) in
-      let not-body : bit (c .body) L ≡ false = not-T-false _ (λ u. apart-none met (c .body) .0 (eqb-true _ _ (a .1)) L t u) in
-      and-is-true _ _
-      (and-is-true _ _ (and-is-true (bit (c .head) L) (not (bit (c .body) L)) (T-true (bit (c .head) L) (in-both (c .head) w L t .0)) (ap not not-body)) (d .0))
-      (and-is-true _ _ (d .1) (eq-eqb _ _ (ap (λ x. bitAnd x (2 ^ L)) one ∙ and-self (2 ^ L) ∙ sym one)))
-
-  does : couldSupport k w L c ≡ true → T (bit w L) → (fires ≡ true) × T (bit met L)
-  unfolding couldSupport
-  does h u =
-      let a = both-true _ _ h in
-      let b = both-true _ _ (a .0) in
-      let p = both-true (bit (c .head) L) (not (bit (c .body) L)) (b .0) in
-      let q = both-true _ _ (a .1) in
-      let t : T (bit met L) = both-in (c .head) w L (true-T (bit (c .head) L) (p .0)) u in
-      let one : met ≡ 2 ^ L = only (eqb-true _ _ (q .1)) t in
-      let lower : Apart met (met - 1) = rw one (and-mask (2 ^ L) L ∙ mod-self (2 ^ L)) in
-      let body : Apart met (c .body) = apart-none met (c .body) .1 (λ M i j. absurd-bit M (in-pow L M (subst (λ (x : ℕ). T (bit x M)) one i)) j (not-true (bit (c .body) L) (p .1))) in
-      (and-is-true _ _ (and-is-true _ _ (and-is-true _ _ (b .1) (q .0)) (eq-eqb _ _ lower)) (eq-eqb _ _ body), t)
-    where
-      absurd-bit : (M : ℕ) → M ≡ L → T (bit (c .body) M) → bit (c .body) L ≡ false → ⊥
-      absurd-bit M e j f = clash (bit (c .body) L) (T-true _ (subst (λ (x : ℕ). T (bit (c .body) x)) e j)) f
-
-  pub support-bit : T (bit w L) → bit (supports w (possible k w) c) L ≡ couldSupport k w L c
-  unfolding supports
-  support-bit u = T-ext _ _ there back
-    where
-      there : T (bit (cond fires met 0) L) → T (couldSupport k w L c)
-      there t = ⊎-elim
-          (λ (f : fires ≡ true). true-T _ (could f (subst (λ (x : Bool). T (bit (cond x met 0) L)) f t)))
-          (λ (f : fires ≡ false). absurd (T-false (bit-zero L) (subst (λ (x : Bool). T (bit (cond x met 0) L)) f t)))
-          (dec fires)
-        where
-          T-false : {b : Bool} → b ≡ false → T b → ⊥
-          T-false e t = clash _ (T-true _ t) e
-
-      back : T (couldSupport k w L c) → T (bit (cond fires met 0) L)
-      back t = let d = does (T-true _ t) u in subst (λ (x : Bool). T (bit (cond x met 0) L)) (sym (d .0)) (d .1)
+  pub no-support : (joined ≡ 0 → ⊥) → reach ≡ possible k w → (y + 1) % 2 ^ 32 ≡ bitAnd h w → y < 2 ^ 32 → Gathers k w (clauseOf h b n) 0
+  no-support z s m l = gathers-none k w (clauseOf h b n) (sym (tested s m l) ∙ ne-eqb _ 0 z)

@@ -1,11 +1,10 @@
 -- What the test of a node is handed, and what it gathers of each clause. Assumes nothing.
 use mathlib.Core.Path.{_≡_}
-use mathlib.Core.Bool.{cond, _&&_}
-use Prim.Native.Nat.{ℕ, _+_, _-_, _%_, _^_, _≤_}
-use lib.Bits.{bitAnd}
-use Rattle.sets.specs.Words.{inside, apart}
+use mathlib.Core.Bool.{_&&_}
+use Prim.Native.Nat.{ℕ, _+_, _%_, _^_, _≤_}
+use Rattle.sets.specs.Words.{bit}
 use Rattle.program.specs.Clauses.{Clause}
-use Rattle.tree.specs.NodeTest.{possible}
+use Rattle.tree.specs.NodeTest.{possible, couldSupport}
 
 -- (k, w) is a node of a tree over at most twelve atoms
 pub record Placed (k w : ℕ) : Type 0 where
@@ -19,8 +18,6 @@ pub record AtNode (count k w reach : ℕ) : Type 0 where
   pub placed : Placed k w
   pub reaches : reach ≡ possible k w
 
--- the literal of w that c could still support, as a word, where reach has what is not decided out: its only head literal in w; else none
-unfoldable pub supports : ℕ → ℕ → Clause → ℕ
-supports w reach c =
-    let h = bitAnd (c .head) w in
-    cond (inside (c .body) reach && apart (c .naf) w && apart h (h - 1) && apart h (c .body)) h 0
+-- r has just the literals of w that c could still support at the node (k, w)
+pub record Gathers (k w : ℕ) (c : Clause) (r : ℕ) : Type 0 where
+  pub exactly : (L : ℕ) → bit r L ≡ bit w L && couldSupport k w L c

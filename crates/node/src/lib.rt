@@ -2,14 +2,15 @@
 ghost use mathlib.Core.Path.{_≡_};
 ghost use Rattle.sets.specs.Lists.{tabulate};
 ghost use Rattle.program.specs.Clauses.{clauseOf};
-ghost use Rattle.tree.specs.NodeTest.{nodeTest};
+ghost use Rattle.tree.specs.NodeTest.{possible, nodeTest};
 ghost use Rattle.leaf.specs.Packed.{packedAt};
-ghost use Rattle.node.specs.Node.{AtNode, supports};
+ghost use Rattle.node.specs.Node.{AtNode, Gathers};
 use tree::NodeStatus;
 
-// The literal of `w` that a clause could still support, as a word, where `reach` is the word with every undecided bit; else 0.
-fn support(head: u32, body: u32, naf: u32, w: u32, reach: u32) -> u32
-    ensures { λ r. ⌜ r ≡ supports w reach (clauseOf head body naf) ⌝ }
+// The literals of `w` that a clause could still support, as a word: one, or none.
+fn support(head: u32, body: u32, naf: u32, k: usize, w: u32, reach: u32) -> u32
+    requires { ⌜ reach ≡ possible k w ⌝ }
+    ensures { λ r. ⌜ Gathers k w (clauseOf head body naf) r ⌝ }
 {
     let met = head & w;
     let below = std::num::wrapping_sub_u32(met, 1);
@@ -33,7 +34,7 @@ pub fn test(table: &[u32; leaf::WORDS], count: usize, k: usize, w: u32, reach: u
         if leaf::rules_out(head, body, naf, reach, w, reach) {
             return NodeStatus::Violated;
         }
-        all = all | support(head, body, naf, w, reach);
+        all = all | support(head, body, naf, k, w, reach);
         i += 1;
     }
     if w & all != w {

@@ -87,6 +87,22 @@ some-supports P I L s t =
     (c .0, c .1, supports I L (w .0) (w .1) (c .0) (c .2) (none-each (violates I I) P (not-true _ (sym (model-some P I I) ∙ s .model)) (c .0) (c .1)))
 
 -- ---- literals at the node (k, w)
+-- an unsupported node has a literal of w that no clause could support
+module _ (P : List Clause) (k w : ℕ) where
+  abbrev lacking : ℕ → Bool
+  lacking L = bit w L && not (anyOf (couldSupport k w L) P)
+
+  pub unsupported-one : (unsupported P k w ≡ true) ↔ ((L : ℕ) × T (bit w L) × (anyOf (couldSupport k w L) P ≡ false))
+  unfolding unsupported
+  unsupported-one = (
+    λ t.
+        let l = some-in lacking (below w) t in
+        let b = both-true (bit w (l .0)) (not (anyOf (couldSupport k w (l .0)) P)) (l .2) in
+        (l .0, true-T (bit w (l .0)) (b .0), not-true _ (b .1)),
+    λ l. in-some lacking (below w) (l .0) (below-in w (l .0) (bit-small w w (l .0) (below-pow w) (l .1)))
+        (and-is-true (bit w (l .0)) _ (T-true (bit w (l .0)) (l .1)) (ap not (l .2))),
+  )
+
 has-bit : (w M : ℕ) → T (bit w M) ↔ Inside (2 ^ M) w
 has-bit w M = (λ t. inside-bits (2 ^ M) w .1 (λ i u. subst (λ (x : ℕ). T (bit w x)) (sym (in-pow M i u)) t), λ h. inside-bits (2 ^ M) w .0 h M (pow-in M))
 
@@ -155,19 +171,11 @@ module _ (k w : ℕ) (z : w % 2 ^ k ≡ 0) where
 
   -- "some literal decided in has no clause that could still support it"
   pub unsupported-exactly : (P : List Clause) → (unsupported P k w ≡ true) ↔ ((L : ℕ) × DecidedIn k w L × ((c : Clause) → c ∈ P → CouldSupport k w L c → ⊥))
-  unfolding unsupported
   unsupported-exactly P = (
     λ t.
-        let l = some-in (λ L. bit w L && not (anyOf (couldSupport k w L) P)) (below w) t in
-        let b = both-true (bit w (l .0)) (not (anyOf (couldSupport k w (l .0)) P)) (l .2) in
-        let u = true-T (bit w (l .0)) (b .0) in (
-          l .0,
-          (in-decided (l .0) u, u),
-          λ c m s.
-              clash (anyOf (couldSupport k w (l .0)) P) (in-some (couldSupport k w (l .0)) P c m (support-exactly (l .0) c .1 s)) (not-true _ (b .1)),
-        ),
-    λ l. in-some (λ L. bit w L && not (anyOf (couldSupport k w L) P)) (below w) (l .0) (below-in w (l .0) (bit-small w w (l .0) (below-pow w) (l .1 .1)))
-        (and-is-true (bit w (l .0)) (not (anyOf (couldSupport k w (l .0)) P)) (T-true (bit w (l .0)) (l .1 .1)) (ap not (some-none (couldSupport k w (l .0)) P (λ c m. not-T-false (couldSupport k w (l .0) c) (λ h. l .2 c m (support-exactly (l .0) c .0 (T-true (couldSupport k w (l .0) c) h))))))),
+        let l = unsupported-one P k w .0 t in
+        (l .0, (in-decided (l .0) (l .1), l .1), λ c m s. clash _ (in-some (couldSupport k w (l .0)) P c m (support-exactly (l .0) c .1 s)) (l .2)),
+    λ l. unsupported-one P k w .1 (l .0, l .1 .1, some-none (couldSupport k w (l .0)) P (λ c m. not-T-false _ (λ h. l .2 c m (support-exactly (l .0) c .0 (T-true _ h))))),
   )
 
   -- a clause that supports a literal in a leaf could support it at each node above
@@ -189,7 +197,7 @@ module _ (k w : ℕ) (z : w % 2 ^ k ≡ 0) where
 
 -- ---- the node test
 module _ (P : List Clause) (k w : ℕ) where
-  pub dead-either : dead P k w ≡ violated P k w || unsupported P k w
+  dead-either : dead P k w ≡ violated P k w || unsupported P k w
   unfolding dead nodeTest
   dead-either = go (violated P k w) (unsupported P k w)
     where

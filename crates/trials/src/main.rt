@@ -1,4 +1,5 @@
-// Tries the engine from outside, by its public calls alone, on books with stored models, on lists with stored summaries, on candidates with stored answers and on trees with stored counts: a line for each family says how many were tried and how many agree.
+// Tries the engine from outside, by its public calls alone: books with stored models, lists with stored summaries, candidates with stored answers, trees with stored counts.
+// A line for each family says how many were tried and how many agree.
 // What is asked of a book stands in a file for each family, and the calls themselves in `asking`.
 // The first disagreement is printed with both answers and its record's label, and ends the program.
 mod asking;
