@@ -13,13 +13,15 @@ In crates/trials/data:
               of a book with clauses its models, by clingo, also where it has none; of a book without clauses one in which each name takes one, two, three, four values, or any number of them
   checks      a book with candidates, each followed by what the check finds, by its definition: 0 0 for p-stable, 1 and the violated clause, 2 and the least smaller subset
   nodes       a book with the number of nodes of its tree, and for each of its models how many nodes are visited when it is come to; the tree is formed here by its definition, and the models are clingo's
+  holdings    a book with a clause as its last line, behind the equals sign the clause's three words, 0 where no equal clause stands before it and 1 where one does, the bytes before that line,
+              number of models, nodes and models without the clause, and nodes and models with it; or a book and a clause that is refused: the refusal, all bytes, and the book's nodes and models twice
 
 In crates/edges/data:
 
   refusals    texts, each with the number that refuses it, 0 where it is taken
   vocabulary  books, each with the number that refuses its fixpoint, 0 where W is at most 64
   rooms       books, each with the number of members of its largest stage, formed here by its definition
-  tables      a book, a field of its table, a place in it and a value put there, and 9 or 0 where the table is then still one that the reader could give
+  tables      a book, a field of its table, a place in it and a value put there, and 9, or 0 where the table is then not refused
 """
 import itertools
 import os
@@ -33,6 +35,7 @@ LARGE_STAGE = 2000
 MOST_LARGE = 3
 CHECKED_BOOKS = 12
 COUNTED_BOOKS = 12
+HELD_BOOKS = 10
 HERE = os.path.dirname(os.path.abspath(__file__))
 TRIALS = os.path.join(HERE, '..', 'crates', 'trials', 'data')
 EDGES = os.path.join(HERE, '..', 'crates', 'edges', 'data')
@@ -478,6 +481,83 @@ def nodes():
             yield f'{kind} {k}', names_for(rng, n), clauses, counted(n, clauses, models)
 
 
+# ---- clauses that are held and kept
+
+def clause_words(values):
+    return [sum(1 << b for b in literals) for literals in parts(values)]
+
+
+def weighed(n, clauses):
+    """The number of nodes and the models of a book; None where the fixpoint would form too large a stage or has too large a W."""
+    models = solve(clauses)
+    if models is None or transformed(n, clauses)[1] > 64 or largest_stage(n, clauses, LARGE_STAGE) is None:
+        return None
+    return counted(n, clauses, models)[0], models
+
+
+def held(names, clauses, values):
+    """The text and the numbers of a clause that is taken; None where one of the two books is too large."""
+    before, after = weighed(len(names), clauses), weighed(len(names), clauses + [values])
+    if before is None or after is None:
+        return None
+    size = len(text_of(names, clauses))
+    (nodes, models), (nodes_after, models_after) = before, after
+    return text_of(names, clauses + [values]), clause_words(values) + [int(values in clauses), size, len(models), nodes] + models + [nodes_after] + models_after
+
+
+def not_held(names, clauses, words, refusal):
+    """The text and the numbers of a clause that is refused."""
+    nodes, models = weighed(len(names), clauses)
+    text = text_of(names, clauses)
+    return text, words + [refusal, len(text), len(models), nodes] + models + [nodes] + models
+
+
+# written out: whether an equal clause stands, the bytes before the last line, how many models the book has without it, its nodes and models, and the nodes and models with it
+HELD = [
+    ('a fact', 'a b', '1 0 / 4 1', '4 1 0', '0 8 1 9 1 13 5'),
+    ('an equal clause', 'a', '1 / 1', '1 0 0', '1 4 1 5 1 5 1'),
+    ('a constraint', 'a', '1 / 4', '0 1 0', '0 4 1 5 1 5'),
+    ('the first clause', 'a', '2', '2 0 0', '0 2 1 5 0 5 2'),
+    ('a default that takes the model away', 'a', '34', '2 0 2', '0 2 1 5 0 3'),
+    ('equal head and body, another not-part', 'a b', '1 16 / 1 32', '1 0 8', '0 9 1 9 1 9 1'),
+]
+
+EMPTY = [0, 0, 0]
+NOT_HELD = [
+    ('an empty clause', 'a b', '1 0', EMPTY, 17),
+    ('a head outside', 'a b', '1 0', [16, 0, 0], 17),
+    ('a body outside', 'a b', '1 0', [1, 16, 0], 17),
+    ('a not-part outside', 'a b', '1 0', [1, 0, 16], 17),
+    ('the highest bit', 'a b', '1 0', [2 ** 31, 0, 0], 17),
+    ('all bits', 'a b c d e f', '1 0 0 0 0 0', [2 ** 32 - 1] * 3, 17),
+    ('a head outside twelve names', 'a b c d e f g h i j k l', '1 0 0 0 0 0 0 0 0 0 0 0', [2 ** 24, 0, 0], 17),
+    ('64 clauses', 'a', ' / '.join(['1'] * 64), [1, 0, 0], 18),
+    ('64 clauses and an empty one', 'a', ' / '.join(['1'] * 64), EMPTY, 17),
+    ('64 clauses and one outside', 'a', ' / '.join(['1'] * 64), [4, 0, 0], 17),
+]
+
+
+def holdings():
+    for label, names, clauses, words, numbers in HELD:
+        yield label, text_of(names.split(), rows(clauses)), [int(x) for x in (words + ' ' + numbers).split()]
+    for label, names, clauses, words, refusal in NOT_HELD:
+        yield (label, *not_held(names.split(), rows(clauses), words, refusal))
+    yield ('the last place', *held(['a'], rows(' / '.join(['1'] * 63)), [2]))
+    for label, make in (('dense', dense), ('disjunction', disjunctions), ('loop', loops), ('constraint', constraints), ('default', defaults)):
+        rng = random.Random(f'{SEED} holdings {label}')
+        k = 0
+        while k < HELD_BOOKS:
+            n, clauses = make(rng)
+            clauses = [c for c in clauses if any(c)]
+            if not clauses:
+                continue
+            last = rng.choice(clauses) if rng.random() < 0.25 else clause(n, some_of(rng, n, 0, 2), some_of(rng, n, 0, 2), some_of(rng, n, 0, 1))
+            made = held(names_for(rng, n), clauses, last) if any(last) else None
+            if made is not None:
+                k += 1
+                yield (f'{label} {k}', *made)
+
+
 # ---- texts that are refused, and texts at the edges that are taken
 
 TWELVE = ' '.join('abcdefghijkl')
@@ -593,7 +673,8 @@ def refusals():
             yield f'several {k}', faulty(faults), min(faults)
 
 
-# ---- tables forged by hand: 0 the names, 1 a byte of a name, 2 the clauses, 3 to 5 a head, a body, a not-part
+# ---- tables forged by hand: 0 the names, 1 a byte of a name, 2 the clauses, 3 to 5 a head, a body, a not-part,
+# 6 to 8 a head, a body, a not-part that is held, 9 to 11 the same in a place that is not in use
 
 LAST = 2 ** 32 - 1
 SOLD = book('fell due', '1 0', '2 0', '16 1')
@@ -635,6 +716,25 @@ TABLES = [
     ('a head behind the clauses', SOLD, 3, 3, 1, 9),
     ('a body behind the clauses', SOLD, 4, 63, 1, 9),
     ('a not-part behind the clauses', SOLD, 5, 63, 1, 9),
+    ('a head held', SOLD, 6, 0, 1, 0),
+    ('a body held', SOLD, 7, 0, 1, 0),
+    ('a not-part held', SOLD, 8, 0, 1, 0),
+    ('the highest head held', SOLD, 6, 0, 15, 0),
+    ('the highest body held', SOLD, 7, 0, 15, 0),
+    ('the highest not-part held', SOLD, 8, 0, 15, 0),
+    ('nothing in a place in use', SOLD, 6, 0, 0, 9),
+    ('a head held outside', SOLD, 6, 0, 16, 9),
+    ('a body held outside', SOLD, 7, 0, 16, 9),
+    ('a not-part held outside', SOLD, 8, 0, LAST, 9),
+    ('a head held outside twelve names', book(TWELVE, ROW), 6, 0, 2 ** 24, 9),
+    ('the last place held', book(TWELVE, *[ROW] * 63), 6, 0, 1, 0),
+    ('a head held beside 64 clauses', FULL, 6, 0, 1, 9),
+    ('nothing held beside 64 clauses', FULL, 9, 0, 0, 0),
+    ('nothing held', SOLD, 9, 0, 0, 0),
+    ('a head in a place not in use', SOLD, 9, 0, 1, 9),
+    ('a body in a place not in use', SOLD, 10, 0, 1, 9),
+    ('a not-part in a place not in use', SOLD, 11, 0, 1, 9),
+    ('all bits in a place not in use', SOLD, 11, 0, LAST, 9),
 ]
 
 
@@ -701,6 +801,7 @@ def main():
     save(TRIALS, 'summaries', [record(a, text_of(n, c), numbers) for a, n, c, numbers in summaries()])
     save(TRIALS, 'checks', [record(a, text_of(n, c), numbers) for a, n, c, numbers in checks()])
     save(TRIALS, 'nodes', [record(a, text_of(n, c), numbers) for a, n, c, numbers in nodes()])
+    save(TRIALS, 'holdings', [record(a, t, numbers) for a, t, numbers in holdings()])
     save(EDGES, 'tables', [record(a, t, numbers) for a, t, *numbers in TABLES])
     with open(os.path.join(TRIALS, 'VERSION'), 'w') as out:
         out.write(f'seed {SEED}\n{version}\n')

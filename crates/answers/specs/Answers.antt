@@ -13,6 +13,10 @@ use Rattle.text.specs.declared.Written.{Written}
 use Rattle.text.specs.declared.Written.the-variants as written
 use Rattle.stable.specs.declared.Checked.{Checked}
 use Rattle.stable.specs.declared.Checked.the-variants as checked
+use Rattle.hold.specs.declared.HoldStatus.{HoldStatus}
+use Rattle.hold.specs.declared.HoldStatus.the-variants as holding
+use Rattle.hold.specs.declared.ClearStatus.{ClearStatus}
+use Rattle.hold.specs.declared.ClearStatus.the-variants as clearing
 use Rattle.answers.specs.declared.Answer.{Answer}
 use Rattle.answers.specs.declared.Difference.{Difference}
 
@@ -42,6 +46,17 @@ ofChecked (checked.Refused r) w = answer r 0 w
 ofChecked (checked.Violated k) w = answer 104 k w
 ofChecked (checked.Smaller j) w = answer 105 j w
 ofChecked checked.Stable w = answer 103 0 w
+
+-- 108 a new clause is held, 109 an equal one stands; 110 the place was cleared, 111 nothing was held
+unfoldable pub ofHeld : HoldStatus → Answer
+ofHeld holding.New = answer 108 0 0
+ofHeld holding.Equal = answer 109 0 0
+ofHeld (holding.Refused r) = answer r 0 0
+
+unfoldable pub ofCleared : ClearStatus → Answer
+ofCleared clearing.Cleared = answer 110 0 0
+ofCleared clearing.NothingHeld = answer 111 0 0
+ofCleared (clearing.Refused r) = answer r 0 0
 
 -- ---- compared
 -- the largest number of 64 bits is expected for any

@@ -1,7 +1,9 @@
 // What a call answered, as three numbers, whatever the call: compared with what is expected, and so is what it left in a slice that was lent to it.
 ghost use mathlib.Core.Path.{_≡_};
 ghost use lib.ListN.{getD};
-ghost use Rattle.answers.specs.Answers.{answer, ofVerdict, ofOutcome, ofWritten, ofChecked, allowing, agreeing, heldAt, firstOther, differenceOf};
+ghost use Rattle.answers.specs.Answers.{answer, ofVerdict, ofOutcome, ofWritten, ofChecked, ofHeld, ofCleared, allowing, agreeing, heldAt, firstOther, differenceOf};
+use hold::ClearStatus;
+use hold::HoldStatus;
 use program::Outcome;
 use program::Verdict;
 use stable::Checked;
@@ -50,6 +52,14 @@ pub const NUMBER: u64 = 106;
 // Expected of a candidate that is not p-stable; no check answers so.
 pub const UNSTABLE: u64 = 107;
 
+pub const NEW: u64 = 108;
+
+pub const EQUAL: u64 = 109;
+
+pub const CLEARED: u64 = 110;
+
+pub const NOTHING_HELD: u64 = 111;
+
 // ---- what gave an answer: a call, or a slice that was lent to it
 pub const READER: usize = 0;
 
@@ -68,6 +78,12 @@ pub const LIST: usize = 6;
 pub const TEXT: usize = 7;
 
 pub const RECORD: usize = 8;
+
+pub const HOLD: usize = 9;
+
+pub const KEEP: usize = 10;
+
+pub const RELEASE: usize = 11;
 
 pub fn made(outcome: u64, first: u64, second: u64) -> Answer
     ensures { λ r. ⌜ r ≡ answer outcome first second ⌝ }
@@ -121,6 +137,28 @@ pub fn of_checked(checked: Checked, candidate: u64) -> Answer
         Checked::Violated(k) => made(VIOLATED, k as u64, candidate),
         Checked::Smaller(j) => made(SMALLER, j as u64, candidate),
         Checked::Stable => made(STABLE, 0, candidate),
+    }
+}
+
+// What holding a clause finds.
+pub fn of_held(status: HoldStatus) -> Answer
+    ensures { λ r. ⌜ r ≡ ofHeld status ⌝ }
+{
+    match status {
+        HoldStatus::New => made(NEW, 0, 0),
+        HoldStatus::Equal => made(EQUAL, 0, 0),
+        HoldStatus::Refused(number) => made(number as u64, 0, 0),
+    }
+}
+
+// Whether a held clause was kept or let go.
+pub fn of_cleared(status: ClearStatus) -> Answer
+    ensures { λ r. ⌜ r ≡ ofCleared status ⌝ }
+{
+    match status {
+        ClearStatus::Cleared => made(CLEARED, 0, 0),
+        ClearStatus::NothingHeld => made(NOTHING_HELD, 0, 0),
+        ClearStatus::Refused(number) => made(number as u64, 0, 0),
     }
 }
 

@@ -1,23 +1,19 @@
--- The ways that a word comes to its text: the book is refused or read, and the command is one of the five. Assumes nothing.
+-- The ways that a word comes to its text: the book is refused or read, and the command is one of the seven. Assumes nothing.
 use mathlib.Core.Path.{_≡_, refl, sym, ap, _∙_}
-use mathlib.Core.Logic.{⊎-elim}
 use mathlib.Core.List.{List, []}
 use Prim.Native.Nat.{ℕ, _≤_, _<_}
 use native.Mathlib.Omega.{arith}
-use lib.Dec.{eqb, ltb}
 use lib.ListN.{length, drop, length-append}
 use lib.Seq.{length-take-le}
-use borrow.Author.Tests.{ltb-false, le-leb, lt-leb}
-use Rattle.sets.proofs.Tests.{dec, both-false}
+use borrow.Author.Tests.{le-leb, lt-leb}
 use Rattle.lists.specs.Bytes.{Wrote}
 use Rattle.program.specs.declared.Program.{Program}
+use Rattle.program.specs.Clauses.{clauseOf}
 use Rattle.program.specs.declared.Verdict.the-variants as verdict
-use Rattle.program.specs.Refusals.{lowest}
 use Rattle.text.specs.declared.Read.{Read}
-use Rattle.text.specs.Refusals.{wrongSize, refusal}
-use Rattle.text.specs.Reading.{readOf, IsAccepted}
+use Rattle.text.specs.Reading.{readOf}
 use Rattle.text.specs.Render.{render}
-use Rattle.text.proofs.RoundTrip as trip
+use Rattle.text.proofs.RoundTrip.{read-valid}
 use Rattle.wording.specs.Printed.{refusedLine}
 use Rattle.printing.specs.Ready.{mostBytes, Ready}
 use Rattle.printing.specs.Texts.{unlessRefused, lentList, allowance}
@@ -25,6 +21,7 @@ use Rattle.checking.specs.Texts.{checkText}
 use Rattle.searching.specs.Texts.{searchText}
 use Rattle.fixing.specs.Texts.{workSlice, fixpointText}
 use Rattle.summing.specs.Texts.{summaryText}
+use Rattle.holding.specs.Texts.{holdText, keepText}
 use Rattle.commands.specs.declared.Command.{Command}
 use Rattle.commands.specs.declared.Command.the-variants as command
 use Rattle.commands.specs.Printing.{printed, Prints}
@@ -46,26 +43,9 @@ module _ (t xs : List ℕ) where
       }
 
 -- ---- the text was read
-text-short : (b : List ℕ) → refusal b ≡ 0 → length b ≤ 4096
-unfolding refusal lowest wrongSize
-text-short b z = ⊎-elim
-    (λ t. absurd (let e : refusal b ≡ 1 = rw t in omega arith))
-    (λ f. ltb-false _ _ (both-false (eqb (length b) 0) (ltb 4096 (length b)) f .1))
-    (dec (wrongSize b))
-
 module _ (b : List ℕ) (d : Read) (e : d ≡ readOf b) (xs : List ℕ) (h : mostBytes ≤ length xs) where
-  taken : d .verdict ≡ verdict.Accepted → IsAccepted b
-  taken t = ap (λ (x : Read). x .verdict) (sym e) ∙ t
-
   pub read-ready : d .verdict ≡ verdict.Accepted → Ready (d .program) xs
-  read-ready t =
-      let a = taken t in
-      let q : render (d .program) ≡ b = ap (λ (x : Read). render (x .program)) e ∙ trip.written-back b a in
-      record {
-        read = rw e (trip.read-valid b a);
-        text = rw q (omega (arith, text-short b (trip.cleared b a)));
-        room = h;
-      }
+  read-ready t = record { accepted = rw e (read-valid b (ap (λ (x : Read). x .verdict) (sym e) ∙ t)); room = h }
 
   module _ (k : Command) (ns bs : List ℕ) (r : ℕ) (ys : List ℕ) where
     pub run-read : d .verdict ≡ verdict.Accepted → Wrote (textOf k ns bs (d .program)) xs r ys → Prints (output k ns bs b) xs r ys
@@ -98,6 +78,14 @@ module _ (k : Command) (ns bs : List ℕ) (p : Program) (xs : List ℕ) (r : ℕ
   pub is-write : k ≡ command.Write → Wrote (render p) xs r ys → Wrote (textOf k ns bs p) xs r ys
   unfolding textOf
   is-write e h = rw e h
+
+  pub is-hold : (d b n : ℕ) → k ≡ command.Hold d b n → Wrote (holdText (clauseOf d b n) p) xs r ys → Wrote (textOf k ns bs p) xs r ys
+  unfolding textOf
+  is-hold d b n e h = rw e h
+
+  pub is-keep : (d b n : ℕ) → k ≡ command.Keep d b n → Wrote (keepText (clauseOf d b n) p) xs r ys → Wrote (textOf k ns bs p) xs r ys
+  unfolding textOf
+  is-keep d b n e h = rw e h
 
 -- ---- the report
 pub report-prints : (b xs : List ℕ) (r : ℕ) (ys : List ℕ) → Prints (output (command.Search allowance 4096) [] [] b) xs r ys → Prints (reportOf b) xs r ys

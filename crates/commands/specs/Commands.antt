@@ -2,12 +2,14 @@
 use mathlib.Core.List.{List}
 use Prim.Native.Nat.{ℕ}
 use Rattle.program.specs.declared.Program.{Program}
+use Rattle.program.specs.Clauses.{clauseOf}
 use Rattle.text.specs.Render.{render}
 use Rattle.printing.specs.Texts.{lentList, allowance, lent}
 use Rattle.checking.specs.Texts.{checkText}
 use Rattle.searching.specs.Texts.{searchText}
 use Rattle.fixing.specs.Texts.{workSlice, fixpointText}
 use Rattle.summing.specs.Texts.{summaryText}
+use Rattle.holding.specs.Texts.{holdText, keepText}
 use Rattle.commands.specs.declared.Command.{Command}
 use Rattle.commands.specs.declared.Command.the-variants as command
 use Rattle.commands.specs.Printing.{printed}
@@ -20,6 +22,8 @@ textOf (command.Search A places) ns bs p = searchText A (lentList places) p
 textOf (command.Fixpoint places capacity) ns bs p = fixpointText (lentList places) (workSlice capacity) (workSlice capacity) p
 textOf command.Summary ns bs p = summaryText p
 textOf command.Write ns bs p = render p
+textOf (command.Hold h b n) ns bs p = holdText (clauseOf h b n) p
+textOf (command.Keep h b n) ns bs p = keepText (clauseOf h b n) p
 
 -- what a word prints on the text b
 unfoldable pub output : Command → List ℕ → List ℕ → List ℕ → List ℕ

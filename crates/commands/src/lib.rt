@@ -18,6 +18,8 @@ pub enum Command {
     Fixpoint(usize, usize),
     Summary,
     Write,
+    Hold(u32, u32, u32),
+    Keep(u32, u32, u32),
 }
 
 // What the command says of the table; none of these takes the numbers or the bytes.
@@ -31,6 +33,8 @@ fn put_command(p: Program, command: Command, numbers: &[u32], bytes: &[u8], out:
         Command::Fixpoint(places, capacity) => fixing::put_fixpoint(p, places, capacity, out),
         Command::Summary => summing::put_summary(p, out),
         Command::Write => summing::put_written(p, out),
+        Command::Hold(head, body, naf) => holding::put_hold(p, head, body, naf, out),
+        Command::Keep(head, body, naf) => holding::put_keep(p, head, body, naf, out),
     }
 }
 

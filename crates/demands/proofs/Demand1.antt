@@ -9,11 +9,14 @@ use lib.Dec.{ltb, leb}
 use lib.ListN.{length, take, replicate}
 use borrow.Author.Tests.{eq-eqb, ne-eqb}
 use Rattle.sets.specs.Lists.{Each}
-use Rattle.sets.proofs.Tests.{same?}
+use Rattle.sets.proofs.Tests.{dec, same?}
 use Rattle.sets.proofs.Lists.{each-++}
 use Rattle.lists.specs.Bytes.{oneIf}
 use Rattle.program.specs.declared.Program.{Program}
 use Rattle.program.specs.Clauses.{Clause, rows, clauses}
+use Rattle.program.specs.Held.{heldClause, released}
+use Rattle.program.specs.Valid.{heldValid, valid, Sized}
+use Rattle.program.proofs.Validity.{held-fits, held-nothing, held-used, held-unused, clause-exactly}
 use Rattle.program.specs.Refusals.{lowest, Applies, Lowest, ofOutcome}
 use Rattle.program.proofs.Lowest.{rises, none-lowest, lowest-is, one-lowest}
 use Rattle.program.specs.declared.Verdict.{Verdict}
@@ -30,6 +33,10 @@ use Rattle.stable.specs.Check as checking
 use Rattle.summary.specs.Summary.{summaryWith, refusedSummary}
 use Rattle.summary.specs.Summary as summing
 use Rattle.summary.proofs.Meaning as meaning
+use Rattle.hold.specs.declared.ClearAnswer.{ClearAnswer}
+use Rattle.hold.specs.Holding.{holdRefusal, ofHold}
+use Rattle.hold.specs.Clearing.{kept, clearRefusals, clearRefusal, clearedOf, keepOf, releaseOf, ofClear}
+use Rattle.hold.proofs.Laws as holds
 use Rattle.program.specs.declared.Outcome.the-variants.{Complete, Full, Spent}
 use Rattle.program.specs.declared.Outcome.the-variants as outcome
 use Rattle.tree.specs.Tree.{hits}
@@ -37,7 +44,7 @@ use Rattle.tree.specs.Answer.{answer, leafOf, nodesOf, overfull, fullAt, runAns
 use Rattle.tree.specs.Answer as searching
 use Rattle.fixpoint.specs.Answer.{roomOf}
 use Rattle.fixpoint.specs.Answer as fixing
-use Rattle.demands.specs.Demand1.{Lent, Told, Call, read, write, check, summarize, search, fixpoint, told, Answers, numbersOf, ofWritten, ofChecked, Demand1}
+use Rattle.demands.specs.Demand1.{Lent, Told, Call, read, write, check, summarize, search, fixpoint, hold, keep, release, told-back, told, Answers, numbersOf, ofWritten, ofChecked, MayHold, Given, Demand1}
 
 not-both : {A : Type 0} {v : Verdict} {n : ℕ} → v ≡ Accepted → v ≡ Refused n → A
 not-both a b = absurd (let z : _≡_ {A = ℕ} 0 1 = cc in omega arith)
@@ -74,9 +81,10 @@ module _ (c : Told) (r : rises 0 (c .meets) ≡ true)
   where-refused f n e = f (λ z. not-both (zero-accepts z) e)
 
   answers : ((lowest (c .meets) ≡ 0 → ⊥) → Each (λ (s : Lent). s .exit ≡ s .entry) (c .lent))
+      → ((lowest (c .meets) ≡ 0 → ⊥) → Each (λ (t : Program × Program). t .1 ≡ t .0) (c .tables))
       → ((lowest (c .meets) ≡ 0 → ⊥) → Each (λ x. x ≡ 0) (c .shows))
       → Each (λ (s : Lent). length (s .exit) ≡ length (s .entry)) (c .free) → Answers c
-  answers u s f = record { refused = refused-is; accepted = accepted-is; untouched = where-refused u; nothing = where-refused s; lengths = f }
+  answers u b s f = record { refused = refused-is; accepted = accepted-is; untouched = where-refused u; given-back = where-refused b; nothing = where-refused s; lengths = f }
 
 -- ---- lists of a few members
 abbrev Zeros : List ℕ → Type 0
@@ -114,7 +122,7 @@ zero-table =
     let z : List ℕ = replicate 64 0 in
     let two = zeros-append z z (zeros 64) (zeros 64) in
     let all = zeros-append (replicate 96 0) (z ++ (z ++ z)) (zeros 96) (zeros-append z (z ++ z) (zeros 64) two) in
-    zero-more 0 (0 ∷ (replicate 96 0 ++ (z ++ (z ++ z)))) refl (zero-more 0 (replicate 96 0 ++ (z ++ (z ++ z))) refl all)
+    zeros-append (replicate 6 0) (replicate 96 0 ++ (z ++ (z ++ z))) (zeros 6) all
 
 -- ---- what is accepted is no refusal
 checked-accepts : (R P : List Clause) (w : ℕ) → ofChecked (verdict R P w) ≡ Accepted
@@ -174,34 +182,50 @@ module _ (p : Program) (l w v : List ℕ) where
   unfolding fixing.answerOf fixing.exitOf
   fix-other d = (rw (ne-eqb (fixing.refusal p (roomOf w v)) 0 d), rw (ne-eqb (fixing.refusal p (roomOf w v)) 0 d))
 
+-- ---- hold, keep and release
+back-one : (p q : Program) → q ≡ p → Each (λ (t : Program × Program). t .1 ≡ t .0) ((p, q) ∷ [])
+back-one p q e = each-more (λ (t : Program × Program). t .1 ≡ t .0) (p, q) [] e (λ x m. absurd m)
+
+-- a call that clears the place: the table q where a clause was held
+cleared-call : (p q : Program) (r : ClearAnswer) → r ≡ clearedOf p q → Answers (told-back (r ≡ clearedOf p q) (clearRefusals p) (ofClear (r .status)) p (r .program))
+unfolding rises clearRefusal
+cleared-call p q r e = answers _ refl
+    (λ z. ap (λ x. ofClear (x .status)) e ∙ holds.clear-accepted p q z)
+    (λ d. ap (λ x. ofClear (x .status)) (e ∙ holds.clear-refused p q d))
+    (λ d x m. absurd m)
+    (λ d. back-one p (r .program) (ap (λ x. x .program) (e ∙ holds.clear-refused p q d)))
+    (λ d x m. absurd m) (λ x m. absurd m)
+
 every-call : (c : Call) → told c .promised → Answers (told c)
-unfolding told rises reading.refusal writeRefusal checking.refusal summing.refusal searching.refusal fixing.refusal fixing.refused summaryWith refusedSummary
+unfolding told rises reading.refusal writeRefusal checking.refusal summing.refusal searching.refusal fixing.refusal fixing.refused summaryWith refusedSummary holdRefusal clearRefusal keepOf releaseOf
 every-call (read b r) e = answers (told (read b r)) refl
     (λ z. ap (λ x. x .verdict) (e ∙ trip.taken b z))
     (λ d. ap (λ x. x .verdict) (e ∙ trip.refused b d))
-    (λ d x m. absurd m)
+    (λ d x m. absurd m) (λ d x m. absurd m)
     (λ d. subst (λ x. Zeros (numbersOf (x .program))) (sym (e ∙ trip.refused b d)) zero-table)
     (λ x m. absurd m)
 every-call (write p o r) e = answers (told (write p o r)) refl
     (λ z. ap ofWritten (e .answer ∙ writings.accepted p (o .entry) z .0))
     (λ d. ap ofWritten (e .answer ∙ writings.refused p (o .entry) d .0))
     (λ d. kept-one o (e .slice ∙ writings.refused p (o .entry) d .1))
+    (λ d x m. absurd m)
     (λ d. zero-more _ [] (ap writtenLength (e .answer ∙ writings.refused p (o .entry) d .0)) (λ x m. absurd m))
     (λ x m. absurd m)
 every-call (check p w r) e = answers (told (check p w r)) refl
     (λ z. ap ofChecked (e .answer) ∙ check-zero p w z)
     (λ d. ap ofChecked (e .answer) ∙ check-other p w d)
-    (λ d x m. absurd m) (λ d x m. absurd m) (λ x m. absurd m)
+    (λ d x m. absurd m) (λ d x m. absurd m) (λ d x m. absurd m) (λ x m. absurd m)
 every-call (summarize p ws r) e = answers (told (summarize p ws r)) refl
     (λ z. ap (λ x. x .verdict) (e ∙ meaning.accepted p ws z))
     (λ d. ap (λ x. x .verdict) (e ∙ meaning.refused p ws d))
-    (λ d x m. absurd m)
+    (λ d x m. absurd m) (λ d x m. absurd m)
     (λ d. subst (λ x. Zeros (x .occurring ++ map oneIf (x .settled))) (sym (e ∙ meaning.refused p ws d)) (zeros-append (replicate 12 0) (map oneIf (replicate 12 false)) (zeros 12) (zeros 12)))
     (λ x m. absurd m)
 every-call (search p A l r) e = answers (told (search p A l r)) refl
     (λ z. ap (λ x. ofOutcome (x .outcome)) (e .says) ∙ search-zero p A (l .entry) z)
     (λ d. ap (λ x. ofOutcome (x .outcome)) (e .says ∙ search-other p A (l .entry) d .0))
     (λ d. kept-one l (e .lists ∙ search-other p A (l .entry) d .1))
+    (λ d x m. absurd m)
     (λ d. let q = e .says ∙ search-other p A (l .entry) d .0 in
     zero-more (r .written) (r .visited ∷ []) (ap (λ x. x .written) q) (zero-more (r .visited) [] (ap (λ x. x .visited) q) (λ x m. absurd m)))
     (λ x m. absurd m)
@@ -209,9 +233,37 @@ every-call (fixpoint p l w v r) e = answers (told (fixpoint p l w v r)) refl
     (λ z. ap (λ x. ofOutcome (x .outcome)) (e .says) ∙ fix-zero p (l .entry) (w .entry) (v .entry) z)
     (λ d. ap (λ x. ofOutcome (x .outcome)) (e .says ∙ fix-other p (l .entry) (w .entry) (v .entry) d .0))
     (λ d. kept-one l (e .lists ∙ fix-other p (l .entry) (w .entry) (v .entry) d .1))
+    (λ d x m. absurd m)
     (λ d. zero-more (r .written) [] (ap (λ x. x .written) (e .says ∙ fix-other p (l .entry) (w .entry) (v .entry) d .0)) (λ x m. absurd m))
     (long-two w v (e .first-length) (e .second-length))
+every-call (hold p c r) e = answers (told (hold p c r)) refl
+    (λ z. ap (λ x. ofHold (x .status)) e ∙ holds.hold-accepted p c z)
+    (λ d. ap (λ x. ofHold (x .status)) (e ∙ holds.hold-refused p c d))
+    (λ d x m. absurd m)
+    (λ d. back-one p (r .program) (ap (λ x. x .program) (e ∙ holds.hold-refused p c d)))
+    (λ d x m. absurd m) (λ x m. absurd m)
+every-call (keep p r) e = cleared-call p (kept p) r e
+every-call (release p r) e = cleared-call p (released p) r e
+
+-- ---- what 9 asks
+may-hold : (p : Program) → (heldValid (p .held) (p .«clause_count») (p .«atom_count») ≡ true) ↔ MayHold p
+may-hold p = (
+  λ v. record {
+    clause = λ u. let f = held-fits (p .held) (p .«clause_count») (p .«atom_count») v u in let c = clause-exactly (p .«atom_count») (heldClause (p .held)) .0 (f .0) in (c .0, c .1, f .1);
+    nothing = λ u. held-nothing (p .held) (p .«clause_count») (p .«atom_count») v u;
+  },
+  λ m. ⊎-elim
+      (λ u. let c = m .clause u in held-used (p .held) (p .«clause_count») (p .«atom_count») u (clause-exactly (p .«atom_count») (heldClause (p .held)) .1 (c .0, c .1)) (c .2))
+      (λ u. held-unused (p .held) (p .«clause_count») (p .«atom_count») (m .nothing u))
+      (dec (p .held .«in_use»)),
+)
+
+nine-is : (p : Program) → Sized p → (valid p ≡ true) ↔ (Given (released p) × MayHold p)
+nine-is p s = (
+  λ v. let t = trip.valid-exactly p s .0 v in (t .0, may-hold p .0 (t .1)),
+  λ t. trip.valid-exactly p s .1 (t .0, may-hold p .1 (t .1)),
+)
 
 -- Demand 1.
 pub demand-1 : Demand1
-demand-1 = record { answers = every-call; nine = trip.valid-exactly }
+demand-1 = record { answers = every-call; nine = nine-is; given = trip.given-exactly }

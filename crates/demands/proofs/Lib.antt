@@ -1,7 +1,8 @@
--- The theorems of the three demands.
+-- The theorems of the three demands, and that a held clause is passed over.
 pub mod Outcomes
 pub mod Searching
 pub mod Fixing
 pub mod Demand1
 pub mod Demand2
 pub mod Demand3
+pub mod PassedOver

@@ -10,6 +10,7 @@ use Rattle.sets.specs.Lists.{tabulate}
 use Rattle.sets.specs.Words.{bit}
 use Rattle.program.specs.declared.Program.{Program}
 use Rattle.program.specs.Clauses.{rows, clauses}
+use Rattle.program.specs.Held.{released}
 use Rattle.program.specs.Names.{namesOf}
 use Rattle.program.specs.Values.{isWord, clauseOfValues, sumFor}
 use Rattle.program.specs.Valid.{valid, Sized}
@@ -47,9 +48,10 @@ pub record Demand2 : Type 0 where
   -- "and written back gives the same bytes", wherever they have room
   pub writes-back : (b : List ℕ) (r : Read) → r ≡ readOf b → r .verdict ≡ Accepted
       → (out : List ℕ) (a : Written) (exit : List ℕ) → Writes (r .program) out a exit → length b ≤ length out → WritesBack b out a exit
-  -- and what is written is read as the very table (`Sized` is what a table's type gives: the lengths of its arrays)
+  -- and what is written is read as the very table, with nothing held; document 02, U5: "Reading a written table therefore gives it without the held clause."
+  -- (`Sized` is what a table's type gives: the lengths of its arrays)
   pub reads-back : (p : Program) → Sized p → (out : List ℕ) (a : Written) (exit : List ℕ) → Writes p out a exit → (n : ℕ) → a ≡ Length n
-      → (r : Read) → r ≡ readOf (take n exit) → (r .verdict ≡ Accepted) × (r .program ≡ p)
+      → (r : Read) → r ≡ readOf (take n exit) → (r .verdict ≡ Accepted) × (r .program ≡ released p)
   -- "a candidate is called p-stable exactly when Definition 3.1 of Sakama and Inoue says so"
   pub stable-exactly : (p : Program) (w : ℕ) (r : Checked) → Checks p w r
       → (r ≡ Stable) ↔ ((valid p ≡ true) × (isWord (p .«atom_count») w ≡ true) × PStable (rulesOf (clauses p)) (bit w))

@@ -21,7 +21,11 @@ fn is_zero_table(p: Program) -> bool {
         }
         k += 1;
     }
-    (p.atom_count == 0) & (p.clause_count == 0)
+    let held = p.held;
+    (p.atom_count == 0)
+        & (p.clause_count == 0)
+        & !held.in_use
+        & ((held.head | held.body | held.naf) == 0)
 }
 
 fn one_if(b: bool) -> u64 {

@@ -31,7 +31,7 @@ pub fn agree(source: usize, expected: Answer, found: Answer) -> bool {
     let agrees = answers::agree(expected, found);
     if !agrees {
         print_name(
-            b"reader  writer  search  fixpointcheck   summary list    text    record  ",
+            b"reader  writer  search  fixpointcheck   summary list    text    record  hold    keep    release ",
             source,
         );
         print_answer(found);

@@ -1,4 +1,4 @@
-// A table with one field changed by hand is refused by 9 wherever a call takes a table, or is still one that the reader could give.
+// A table with one field changed by hand is refused by 9 wherever a call takes a table, or is still one that 9 does not refuse.
 use crate::asking;
 use crate::asking::ROOM;
 use crate::saying;
@@ -6,6 +6,8 @@ use answers::ANY;
 use answers::Answer;
 use answers::FREE;
 use answers::PLACES;
+use hold::ClearAnswer;
+use program::HeldClause;
 use program::Program;
 
 // What the bytes hold that are lent to the writer.
@@ -50,7 +52,26 @@ fn with_clause(given: Program, field: u64, at: usize, value: u32) -> Program {
     p
 }
 
-// The table with one field changed: 0 the names, 1 a byte of a name, 2 the clauses, 3 to 5 a head, a body, a not-part.
+// A head, a body or a not-part in the separate place, which is in use up to field 8.
+fn with_held(given: Program, field: u64, value: u32) -> Program {
+    let mut held = program::nothing_held();
+    held.in_use = field <= 8;
+    if field % 3 == 0 {
+        held.head = value;
+    }
+    if field % 3 == 1 {
+        held.body = value;
+    }
+    if field % 3 == 2 {
+        held.naf = value;
+    }
+    let mut p = given;
+    p.held = held;
+    p
+}
+
+// The table with one field changed: 0 the names, 1 a byte of a name, 2 the clauses, 3 to 5 a head, a body, a not-part,
+// 6 to 8 a head, a body, a not-part that is held, and 9 to 11 the same in a place that is not in use.
 fn forged(text: &[u8], field: u64, at: usize, value: u64) -> Program {
     let mut p = asking::table_of(text);
     if field == 0 {
@@ -63,6 +84,9 @@ fn forged(text: &[u8], field: u64, at: usize, value: u64) -> Program {
         if at < 96 {
             p.atom_names[at] = low_byte(value);
         }
+    }
+    if 6 <= field {
+        return with_held(p, field, low_word(value));
     }
     with_clause(p, field, at, low_word(value))
 }
@@ -94,13 +118,63 @@ fn summary_ends(p: Program, refused: Answer) -> bool {
     saying::agree(answers::SUMMARY, refused, answers::of_verdict(verdict, 0))
 }
 
-// Whether the five calls that take a table refuse it, with lists, counts and text as they were.
+// Whether two tables are the same at the place `k` of their names and clauses.
+fn same_at(p: Program, q: Program, k: usize) -> bool {
+    if 96 <= k {
+        return true;
+    }
+    if 64 <= k {
+        return p.atom_names[k] == q.atom_names[k];
+    }
+    (p.atom_names[k] == q.atom_names[k])
+        & (p.heads[k] == q.heads[k])
+        & (p.bodies[k] == q.bodies[k])
+        & (p.nafs[k] == q.nafs[k])
+}
+
+fn same_held(a: HeldClause, b: HeldClause) -> bool {
+    (a.in_use == b.in_use) & (a.head == b.head) & (a.body == b.body) & (a.naf == b.naf)
+}
+
+// Whether a call gives the table back as it came.
+fn is_given_back(source: usize, p: Program, q: Program) -> bool {
+    let mut k: usize = 0;
+    while k < 96 {
+        if !same_at(p, q, k) {
+            return saying::is_enough(source, 97, k as u64);
+        }
+        k += 1;
+    }
+    let same = (p.atom_count == q.atom_count) & (p.clause_count == q.clause_count);
+    let held = p.held;
+    let other = q.held;
+    saying::is_enough(source, 1, (same & same_held(held, other)) as u64)
+}
+
+fn hold_ends(p: Program, refused: Answer) -> bool {
+    let a = hold::hold(p, 1, 0, 0);
+    let status = a.status;
+    let q = a.program;
+    saying::agree(answers::HOLD, refused, answers::of_held(status))
+        && is_given_back(answers::HOLD, p, q)
+}
+
+fn clear_ends(source: usize, a: ClearAnswer, p: Program, expected: Answer) -> bool {
+    let status = a.status;
+    let q = a.program;
+    saying::agree(source, expected, answers::of_cleared(status)) && is_given_back(source, p, q)
+}
+
+// Whether the eight calls that take a table refuse it, with lists, counts, text and the table itself as they were.
 fn is_refused(p: Program, refused: Answer) -> bool {
     saying::agree(answers::CHECK, refused, check(p))
         && search_ends(p, refused)
         && asking::fixpoint_ends(p, ROOM, ROOM, refused)
         && write_ends(p, refused)
         && summary_ends(p, refused)
+        && hold_ends(p, refused)
+        && clear_ends(answers::KEEP, hold::keep(p), p, refused)
+        && clear_ends(answers::RELEASE, hold::release(p), p, refused)
 }
 
 // What the check says of the empty word is no refusal.
@@ -116,7 +190,45 @@ fn is_taken(p: Program) -> bool {
     )
 }
 
-// The numbers are a field, a place, a value, and the refusal of the table that they make, 0 where it is one that the reader could give.
+// What keeping and letting go find: a clause, or with the place not in use nothing.
+fn held_as(field: u64) -> u64 {
+    if field <= 8 {
+        return answers::CLEARED;
+    }
+    answers::NOTHING_HELD
+}
+
+// Whether the table that was read is given back where what a table holds is let go, and what is held is kept.
+fn lets_go(text: &[u8], field: u64, p: Program) -> bool {
+    let expected = answers::made(held_as(field), 0, 0);
+    let kept = hold::keep(p);
+    let status = kept.status;
+    saying::agree(answers::KEEP, expected, answers::of_cleared(status))
+        && clear_ends(
+            answers::RELEASE,
+            hold::release(p),
+            asking::table_of(text),
+            expected,
+        )
+}
+
+// Whether another clause is refused by 16, with the table as it was.
+fn holds_one(p: Program) -> bool {
+    hold_ends(p, answers::made(program::ALREADY_HELD as u64, 0, 0))
+}
+
+// What a table that is not refused says of what it holds.
+fn is_held(text: &[u8], field: u64, p: Program) -> bool {
+    if field < 6 {
+        return true;
+    }
+    if 8 < field {
+        return lets_go(text, field, p);
+    }
+    holds_one(p) && lets_go(text, field, p)
+}
+
+// The numbers are a field, a place, a value, and the refusal of the table that they make, 0 where it is not refused.
 pub fn agrees(text: &[u8], line: &[u8]) -> bool {
     let field = records::number_at(line, 0);
     let place = records::number_at(line, field.next);
@@ -124,7 +236,7 @@ pub fn agrees(text: &[u8], line: &[u8]) -> bool {
     let refusal = records::number_at(line, value.next);
     let p = forged(text, field.value, place.value as usize, value.value);
     if refusal.value == 0 {
-        return is_taken(p);
+        return is_taken(p) && is_held(text, field.value, p);
     }
     is_refused(p, answers::made(refusal.value, 0, 0))
 }

@@ -61,7 +61,8 @@ fn main() {
     // hung: the bar hung: the motor turned and the sensor stayed dark, so the price is due
     // either: no sensor: it fell or it hung, a model for each
     // witness: the same, and a witness: it cannot be that it hung
-    report(b"sold hung either witness");
+    // charged: as either, and the price is due where the motor turned
+    report(b"sold hung either witness charged");
     // stalled: paid, and the motor must have turned, which nothing says: no model
     // circle: a claim that holds unless it holds: no model
     // disputed: the sensor lit, and a bar hangs in the window: fell is contradictory, and no other name is
@@ -81,4 +82,9 @@ fn main() {
     either(Command::Check(1));
     either(Command::Check(341));
     either(Command::Check(1024));
+    // a clause that is new, one that stands already, one without a literal, and the book with the first one kept, which is charged
+    either(Command::Hold(256, 4, 0));
+    either(Command::Hold(1, 0, 0));
+    either(Command::Hold(0, 0, 0));
+    either(Command::Keep(256, 4, 0));
 }

@@ -26,10 +26,10 @@ refused-fits n xs h r = omega (arith, refused-most n (omega arith))
 -- ---- the names line and the lines of the models
 module _ (p : Program) (xs : List ℕ) (s : Ready p xs) where
   pub some-names : 1 ≤ p .«atom_count»
-  some-names = valid-names p (s .read) .one-up
+  some-names = valid-names p (s .accepted) .one-up
 
   pub few-names : p .«atom_count» ≤ 12
-  few-names = valid-names p (s .read) .few
+  few-names = valid-names p (s .accepted) .few
 
 module _ (p : Program) (ws xs : List ℕ) where
   abbrev pub modelsText : List ℕ

@@ -6,16 +6,14 @@ use Prim.Native.Nat.{ℕ, _≤_}
 use lib.ListN.{length}
 use Rattle.program.specs.declared.Program.{Program}
 use Rattle.program.specs.Valid.{valid}
-use Rattle.text.specs.Render.{render}
 
 -- no printed text is longer
 abbrev pub mostBytes : ℕ
 mostBytes = 103000
 
--- a table that was read, and a slice with room for its text and for all that is printed
+-- a table that 9 does not refuse, and a slice with room for all that is printed
 pub record Ready (p : Program) (xs : List ℕ) : Type 0 where
-  pub read : valid p ≡ true
-  pub text : length (render p) ≤ length xs
+  pub accepted : valid p ≡ true
   pub room : mostBytes ≤ length xs
 
 -- the same, and a list of no more places than one that is lent

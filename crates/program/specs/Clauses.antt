@@ -1,6 +1,8 @@
 -- The clauses of a table. Assumes nothing.
+use mathlib.Core.Bool.{Bool, _&&_}
 use mathlib.Core.List.{List}
 use Prim.Native.Nat.{ℕ, _^_, _<_}
+use lib.Dec.{eqb}
 use lib.ListN.{getD}
 use Rattle.sets.specs.Lists.{tabulate}
 use Rattle.program.specs.declared.Program.{Program}
@@ -35,6 +37,13 @@ unfoldable pub clauses : Program → List Clause
 unfolding rows
 clauses p = rows p
 
--- the clause without any literal
+-- equal clauses have equal head, body and not-part
+abbrev pub isEqual : Clause → Clause → Bool
+isEqual c d = eqb (c .head) (d .head) && eqb (c .body) (d .body) && eqb (c .naf) (d .naf)
+
+-- the clause without any literal: all three parts are empty
 abbrev pub noClause : Clause
 noClause = clauseOf 0 0 0
+
+abbrev pub isEmpty : Clause → Bool
+isEmpty c = isEqual c noClause

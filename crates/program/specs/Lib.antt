@@ -1,5 +1,6 @@
--- A program as a table, and which tables the reader can give; the laws stand in proofs/.
+-- A program as a table, and which tables are valid, that is not refused by 9; the laws stand in proofs/.
 pub mod Clauses
+pub mod Held
 pub mod Values
 pub mod Names
 pub mod Valid

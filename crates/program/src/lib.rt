@@ -3,6 +3,7 @@ ghost use mathlib.Core.Path.{_≡_};
 ghost use Prim.Native.Nat.{_%_};
 ghost use lib.ListN.{take};
 ghost use Rattle.sets.specs.Lists.{every};
+ghost use Rattle.program.specs.Held.{nothingHeld};
 ghost use Rattle.program.specs.Values.{isWord, valueIn};
 ghost use Rattle.program.specs.Names.{isLetter, isPlain, isName};
 
@@ -16,6 +17,14 @@ pub const ALL_NAME_BYTES: usize = MOST_ATOMS * NAME_BYTES;
 
 pub const MOST_CLAUSES: usize = 64;
 
+// Document 02, U5: a separate place for one clause that does not count yet; it is zero where it is not in use.
+pub struct HeldClause {
+    pub in_use: bool,
+    pub head: u32,
+    pub body: u32,
+    pub naf: u32,
+}
+
 // Document 01's table; a name is an atom here, and unused places are zero.
 pub struct Program {
     pub atom_count: usize,
@@ -24,6 +33,19 @@ pub struct Program {
     pub heads: [u32; MOST_CLAUSES],
     pub bodies: [u32; MOST_CLAUSES],
     pub nafs: [u32; MOST_CLAUSES],
+    pub held: HeldClause,
+}
+
+// The separate place where nothing is held.
+pub fn nothing_held() -> HeldClause
+    ensures { λ r. ⌜ r ≡ nothingHeld ⌝ }
+{
+    HeldClause {
+        in_use: false,
+        head: 0,
+        body: 0,
+        naf: 0,
+    }
 }
 
 // ---- what calls answer
@@ -59,7 +81,7 @@ pub const CLAUSE_BROKEN: u8 = 7;
 
 pub const ONLY_ZEROS: u8 = 8;
 
-// The table is none that the reader could give.
+// The table is none that the reader could give, with or without a clause that may be held.
 pub const INVALID_PROGRAM: u8 = 9;
 
 // A word has a bit at 2n or above.
@@ -73,6 +95,15 @@ pub const TOO_LITTLE_ROOM: u8 = 12;
 
 // The writer's slice is shorter than the text.
 pub const SLICE_TOO_SHORT: u8 = 13;
+
+// On holding, a clause is held already.
+pub const ALREADY_HELD: u8 = 16;
+
+// The clause to hold is empty, or uses a bit outside the names.
+pub const NO_CLAUSE: u8 = 17;
+
+// As many clauses stand as a table has places for.
+pub const NO_PLACE_LEFT: u8 = 18;
 
 // ---- words over n atoms
 // Whether `w` has no bit at 2n or above.

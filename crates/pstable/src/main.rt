@@ -49,6 +49,26 @@ fn fixpoint() -> Asked {
     Asked::Run(Command::Fixpoint(places as usize, capacity as usize))
 }
 
+// The three parts of a clause, as words.
+fn clause(keep: bool) -> Asked {
+    let Parsed::Number(head) = number(2, 4294967295) else {
+        return Asked::Wrong;
+    };
+    let Parsed::Number(body) = number(3, 4294967295) else {
+        return Asked::Wrong;
+    };
+    let Parsed::Number(naf) = number(4, 4294967295) else {
+        return Asked::Wrong;
+    };
+    let h = (head % 4294967296) as u32;
+    let b = (body % 4294967296) as u32;
+    let n = (naf % 4294967296) as u32;
+    if keep {
+        return Asked::Run(Command::Keep(h, b, n));
+    }
+    Asked::Run(Command::Hold(h, b, n))
+}
+
 // A line for each word and the number of arguments that it has, its own and the program's among them.
 fn understood(word: &[u8], count: usize) -> Asked {
     if lists::same_bytes(word, b"check") & (count == 3) {
@@ -65,6 +85,12 @@ fn understood(word: &[u8], count: usize) -> Asked {
     }
     if lists::same_bytes(word, b"write") & (count == 2) {
         return Asked::Run(Command::Write);
+    }
+    if lists::same_bytes(word, b"hold") & (count == 5) {
+        return clause(false);
+    }
+    if lists::same_bytes(word, b"keep") & (count == 5) {
+        return clause(true);
     }
     Asked::Wrong
 }
@@ -91,7 +117,7 @@ fn main() {
         Asked::Wrong => {
             io::write_all(
                 STDERR_FILENO,
-                b"usage: pstable check WORD | search LIMIT PLACES | fixpoint PLACES CAPACITY | summary | write < BOOK\n",
+                b"usage: pstable check WORD | search LIMIT PLACES | fixpoint PLACES CAPACITY | summary | write | hold HEAD BODY NOT | keep HEAD BODY NOT < BOOK\n",
             );
         }
     }

@@ -4,16 +4,18 @@ use mathlib.Core.Bool.{Bool, true, false}
 use mathlib.Core.List.{List, [], _∷_}
 use Prim.Native.Nat.{ℕ, _+_, _≤_}
 use native.Mathlib.Omega.{arith}
-use lib.ListN.{length, take}
+use lib.ListN.{length, take, replicate}
 use Rattle.sets.specs.Lists.{every}
 use Rattle.lists.specs.Bytes.{pieces, padded, EndsAt, CountOf}
+use Rattle.program.specs.Held.{nothingHeld}
 use Rattle.program.specs.Names.{isName}
 use Rattle.program.specs.Refusals.{lowest}
+use Rattle.program.specs.declared.HeldClause.{HeldClause}
 use Rattle.program.specs.declared.Program.{Program}
-use Rattle.program.specs.declared.Verdict.the-variants.{Accepted}
+use Rattle.program.specs.declared.Verdict.the-variants.{Accepted, Refused}
 use Rattle.text.specs.declared.Read.{Read}
 use Rattle.text.specs.Lines.{names}
-use Rattle.text.specs.Tables.{placed, tableOf}
+use Rattle.text.specs.Tables.{placed, tableOf, zeroTable}
 use Rattle.text.specs.Refusals.{clauseBroken, openingRefusal, refusal}
 use Rattle.text.specs.Reading.{programOf, refusedWith, readOf}
 use Rattle.text.proofs.Tests.{names-are, names-count}
@@ -44,6 +46,14 @@ module _ (b : List ℕ) (z : openingRefusal b ≡ 0) (e : ℕ) (q : EndsAt b 10 
   names-put out f = f ∙ ap (λ (l : List (List ℕ)). padded 96 (placed l)) (sym are)
 
 -- ---- the answers
+pub zero-is : (n : ℕ) (u : HeldClause) → u ≡ nothingHeld
+    → record {
+      verdict = Refused n;
+      program = record { «atom_count» = 0; «atom_names» = replicate 96 0; «clause_count» = 0; heads = replicate 64 0; bodies = replicate 64 0; nafs = replicate 64 0; held = u };
+    } ≡ refusedWith n
+unfolding zeroTable
+zero-is n u e = rw e
+
 module _ (b : List ℕ) (r : Read) where
   -- a refusal that is the lowest
   by-number : (k : ℕ) → refusal b ≡ k → (k ≡ 0 → ⊥) → r ≡ refusedWith k → r ≡ readOf b
@@ -75,7 +85,7 @@ module _ (b : List ℕ) (z : openingRefusal b ≡ 0) (c : ClauseLines) (e : c �
   unfolding lowest
   read-table p h k g = rw g (sym (taken b (eighth h false k)))
 
-  pub table-is : (n : ℕ) (nm : List ℕ) → clauseBroken b ≡ false → n ≡ length (names b) → nm ≡ padded 96 (placed (names b))
-      → record { «atom_count» = n; «atom_names» = nm; «clause_count» = c .count; heads = c .heads; bodies = c .bodies; nafs = c .nafs } ≡ programOf b
+  pub table-is : (n : ℕ) (nm : List ℕ) (u : HeldClause) → clauseBroken b ≡ false → n ≡ length (names b) → nm ≡ padded 96 (placed (names b)) → u ≡ nothingHeld
+      → record { «atom_count» = n; «atom_names» = nm; «clause_count» = c .count; heads = c .heads; bodies = c .bodies; nafs = c .nafs; held = u } ≡ programOf b
   unfolding programOf tableOf
-  table-is n nm h f g = rw (f, g, e ∙ clauses-said b z h)
+  table-is n nm u h f g k = rw (f, g, k, e ∙ clauses-said b z h)

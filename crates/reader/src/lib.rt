@@ -62,6 +62,7 @@ fn table_of(text: &[u8], n: usize, lines: ClauseLines) -> Program
     let heads = lines.heads;
     let bodies = lines.bodies;
     let nafs = lines.nafs;
+    let held = program::nothing_held();
     Program {
         atom_count: n,
         atom_names: names,
@@ -69,6 +70,7 @@ fn table_of(text: &[u8], n: usize, lines: ClauseLines) -> Program
         heads: heads,
         bodies: bodies,
         nafs: nafs,
+        held: held,
     }
 }
 
@@ -78,6 +80,7 @@ fn refused(number: u8) -> Read
 {
     let names = [0u8; 96];
     let words = [0u32; 64];
+    let held = program::nothing_held();
     let none = Program {
         atom_count: 0,
         atom_names: names,
@@ -85,6 +88,7 @@ fn refused(number: u8) -> Read
         heads: words,
         bodies: words,
         nafs: words,
+        held: held,
     };
     Read {
         verdict: Verdict::Refused(number),

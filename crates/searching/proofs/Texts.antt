@@ -37,7 +37,7 @@ run-fits hit ns A L = go (length (hits hit (take A ns))) (ltb L (length (hits hi
 module _ (p : Program) (xs : List ℕ) (q : Ready p xs) (A : ℕ) (l : List ℕ) (a : SearchAnswer) (ms : List ℕ) (s : Searches p A l a ms) where
   places : a .written ≤ length l
   places =
-      let e = ap (λ (x : SearchAnswer). x .written) (s .says ∙ accepted p A l (q .read) .0) in
+      let e = ap (λ (x : SearchAnswer). x .written) (s .says ∙ accepted p A l (q .accepted) .0) in
       omega (arith, run-fits (leafOf p) (nodesOf p) A (length l))
 
   pub written-here : a .written ≤ length ms

@@ -16,6 +16,7 @@ use Rattle.text.specs.Render.{render}
 use Rattle.text.specs.Writing as writing
 use Rattle.text.specs.declared.Written.{Written}
 use Rattle.text.specs.declared.Written.the-variants as written
+use Rattle.writer.proofs.Texts.{text-most}
 use Rattle.lines.specs.Laying.{Room}
 use Rattle.wording.specs.Printed.{refusedLine}
 use Rattle.summarylines.specs.Summary.{fourLines, flagsLine}
@@ -63,7 +64,7 @@ summary-wrote p a ms s xs r ys w = rw (← s .says, ← s .lists) w
 module _ (p : Program) (xs : List ℕ) (q : Ready p xs) (w : Written) (ys : List ℕ) (s : writing.Writes p xs w ys) where
   taken : writing.writeRefusal p xs ≡ 0
   unfolding writing.writeRefusal lowest
-  taken = rw (q .read, le-ltb (length xs) (length (render p)) (q .text))
+  taken = rw (q .accepted, le-ltb (length xs) (length (render p)) (omega (arith, text-most p (q .accepted), q .room)))
 
   pub text-wrote : (r : ℕ) → w ≡ written.Length r → Wrote (render p) xs r ys
   unfolding writing.answerOf writing.exitOf

@@ -46,7 +46,7 @@ pub fn put_summary(p: Program, out: &mut [u8]) -> usize
     put_summarized(p, &models[..m], out)
 }
 
-// The writer's text; with room for it, the writer takes every table that was read.
+// The writer's text; with room for it, the writer takes every table that 9 does not refuse.
 pub fn put_written(p: Program, out: &mut [u8]) -> usize
     requires { ⌜ Ready p (now out) ⌝ }
     ensures { λ r. ⌜ Wrote (render p) (now (out .entry)) r (now (out .exit)) ⌝ }

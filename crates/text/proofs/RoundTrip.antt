@@ -1,6 +1,6 @@
 -- What a text is read as, and the round trip, both ways: what is read is what is written. Assumes nothing.
-use mathlib.Core.Path.{_≡_, sym, ap, ap₂, _∙_, fun-ext}
-use mathlib.Core.Bool.{true}
+use mathlib.Core.Path.{_≡_, refl, sym, ap, ap₂, _∙_, fun-ext}
+use mathlib.Core.Bool.{true, false}
 use mathlib.Core.Logic.{_↔_, ⊎-elim}
 use mathlib.Core.List.{List, map}
 use Prim.Native.Nat.{ℕ}
@@ -11,9 +11,11 @@ use Rattle.sets.specs.Lists.{tabulate}
 use Rattle.sets.proofs.Tests.{dec}
 use Rattle.program.specs.declared.Program.{Program}
 use Rattle.program.specs.Clauses.{Clause, rows}
+use Rattle.program.specs.Held.{nothingHeld, released}
 use Rattle.program.specs.Names.{namesOf}
 use Rattle.program.specs.Values.{clauseOfValues, clauseValues, sumFor}
-use Rattle.program.specs.Valid.{valid, Sized}
+use Rattle.program.specs.Valid.{heldValid, valid, Sized}
+use Rattle.program.proofs.Validity.{valid-held, valid-split, released-same}
 use Rattle.program.proofs.Values.{value-sum}
 use Rattle.program.specs.declared.Verdict.the-variants.{Accepted, Refused}
 use Rattle.text.specs.Lines.{names, clauseLines, row}
@@ -65,7 +67,7 @@ accept-render : (p : Program) → Sized p → valid p ≡ true → refusal (rend
 unfolding render
 accept-render p s v = accept-text (namesOf p) (valuesOf p) (good-table p s v)
 
-read-render : (p : Program) → Sized p → valid p ≡ true → programOf (render p) ≡ p
+read-render : (p : Program) → Sized p → valid p ≡ true → programOf (render p) ≡ released p
 unfolding programOf render
 read-render p s v =
     let g = good-table p s v in
@@ -76,6 +78,10 @@ read-render p s v =
 valid-read : (b : List ℕ) → refusal b ≡ 0 → valid (programOf b) ≡ true
 unfolding programOf
 valid-read b z = valid-with (names b) (map row (clauseLines b)) (good-read b z)
+
+bare-read : (b : List ℕ) → programOf b .held ≡ nothingHeld
+unfolding programOf tableOf
+bare-read b = refl
 
 sized-read : (b : List ℕ) → refusal b ≡ 0 → Sized (programOf b)
 unfolding programOf
@@ -105,16 +111,25 @@ values-read b a =
     sym (all-values (length (names b)) vss (good-read b (cleared b a) .ruled))
     ∙ ap₂ (λ (f : Clause → List ℕ) (cs : List Clause). map f cs) (values-sums (length (names b))) (sym (clauses-read b a))
 
+-- What a text is read as holds no clause, accepted or not.
+pub read-bare : (b : List ℕ) → readOf b .program .held ≡ nothingHeld
+unfolding readOf zeroTable
+read-bare b = ⊎-elim (λ t. rw t (bare-read b)) (λ f. rw f) (dec (eqb (refusal b) 0))
+
 -- What an accepted text is read as is valid.
 pub read-valid : (b : List ℕ) → IsAccepted b → valid (readOf b .program) ≡ true
 read-valid b a = let z = cleared b a in ap valid (program-is b z) ∙ valid-read b z
+
+pub read-sized : (b : List ℕ) → IsAccepted b → Sized (readOf b .program)
+read-sized b a = let z = cleared b a in rw (program-is b z) (sized-read b z)
 
 -- An accepted text is the text of the program that it is read as, byte for byte.
 pub written-back : (b : List ℕ) → IsAccepted b → render (readOf b .program) ≡ b
 written-back b a = let z = cleared b a in ap render (program-is b z) ∙ render-read b z
 
--- The text of a valid program is accepted, and is read as just that program.
-pub read-back : (p : Program) → Sized p → valid p ≡ true → readOf (render p) ≡ record { verdict = Accepted; program = p }
+-- The text of a valid program is accepted, and is read as just that program, with nothing held.
+-- Document 02, U5: "Reading a written table therefore gives it without the held clause."
+pub read-back : (p : Program) → Sized p → valid p ≡ true → readOf (render p) ≡ record { verdict = Accepted; program = released p }
 read-back p s v = taken (render p) (accept-render p s v) ∙ ap (λ q. record { verdict = Accepted; program = q }) (read-render p s v)
 
 -- A text is accepted exactly when it is the text of some valid program.
@@ -124,11 +139,20 @@ accepted-exactly b = (
   λ w. accepted b (ap refusal (sym (w .3)) ∙ accept-render (w .0) (w .1) (w .2)),
 )
 
--- A table is valid exactly when the reader can give it.
-pub valid-exactly : (p : Program) → Sized p → (valid p ≡ true) ↔ ((b : List ℕ) × IsAccepted b × (readOf b .program ≡ p))
+-- A table is valid and holds nothing exactly when the reader can give it.
+pub given-exactly : (p : Program) → Sized p → ((valid p ≡ true) × (p .held .«in_use» ≡ false)) ↔ ((b : List ℕ) × IsAccepted b × (readOf b .program ≡ p))
+given-exactly p s = (
+  λ v. let z = accept-render p s (v .0) in
+      (render p, accepted (render p) z, program-is (render p) z ∙ read-render p s (v .0) ∙ released-same p (v .0) (v .1)),
+  λ w. (ap valid (sym (w .2)) ∙ read-valid (w .0) (w .1), ap (λ q. q .held .«in_use») (sym (w .2)) ∙ ap (λ h. h .«in_use») (read-bare (w .0))),
+)
+
+-- A table is valid exactly when the reader can give it as it is with nothing held, and what it holds may be held.
+pub valid-exactly : (p : Program) → Sized p
+    → (valid p ≡ true) ↔ (((b : List ℕ) × IsAccepted b × (readOf b .program ≡ released p)) × (heldValid (p .held) (p .«clause_count») (p .«atom_count») ≡ true))
 valid-exactly p s = (
-  λ v. let z = accept-render p s v in (render p, accepted (render p) z, program-is (render p) z ∙ read-render p s v),
-  λ w. let z = cleared (w .0) (w .1) in ap valid (sym (w .2) ∙ program-is (w .0) z) ∙ valid-read (w .0) z,
+  λ v. (let z = accept-render p s v in (render p, accepted (render p) z, program-is (render p) z ∙ read-render p s v), valid-held p v),
+  λ w. valid-split p ∙ rw (ap valid (sym (w .0 .2)) ∙ read-valid (w .0 .0) (w .0 .1), w .1),
 )
 
 -- Two texts that are read as the same program are equal.

@@ -19,9 +19,10 @@ use Rattle.lists.proofs.Pieces.{index-le}
 use Rattle.lists.proofs.Padding.{padded-long, padded-back, padded-tail, zeros-are}
 use Rattle.program.specs.declared.Program.{Program}
 use Rattle.program.specs.Clauses.{Clause, clauseAt, rows}
+use Rattle.program.specs.Held.{holding, released}
 use Rattle.program.specs.Names.{isName, place, nameAt, namesOf}
 use Rattle.program.specs.Values.{isWord, valueIn, wordOf, bitsOf, wordBy, clauseOfValues, clauseValue, clauseValues}
-use Rattle.program.specs.Valid.{zeroFrom, isPlace, namesValid, isClause, clausesValid, valid, Sized}
+use Rattle.program.specs.Valid.{zeroFrom, isPlace, namesValid, isClause, clausesValid, heldValid, valid, Sized}
 use Rattle.program.proofs.Places.{place-long}
 use Rattle.program.proofs.Values.{value-lt}
 use Rattle.program.proofs.Validity.{valid-names, valid-clauses, clause-below}
@@ -248,9 +249,9 @@ module _ (p : Program) (s : Sized p) (v : valid p ≡ true) where
       ∙ ap (padded 96) (places-back Y n 0 (omega (arith, t .few, s .names)) (t .named))
       ∙ padded-back 96 (8 * n) Y (s .names) (omega (arith, t .few)) (t .blank)
 
-  -- the table of its names and clauses is the table
-  pub table-back : tableOf (namesOf p) (rows p) ≡ p
-  unfolding tableOf namesOf rows tabulate
+  -- the table of its names and clauses is the table with nothing held
+  pub table-back : tableOf (namesOf p) (rows p) ≡ released p
+  unfolding tableOf released holding namesOf rows tabulate
   table-back =
       let t = valid-clauses p v in
       let n = p .«atom_count» in
@@ -416,7 +417,7 @@ column-long sel vss = length-map (map clauseOfValues vss) sel ∙ length-map vss
 
 module _ (ns vss : List (List ℕ)) (g : Good ns vss) where
   pub valid-with : valid (tableOf ns (map clauseOfValues vss)) ≡ true
-  unfolding valid namesValid clausesValid zeroFrom tableOf
+  unfolding valid namesValid clausesValid heldValid zeroFrom tableOf
   valid-with =
       let n = length ns in
       let cs = map clauseOfValues vss in

@@ -5,12 +5,13 @@ use lib.ListN.{length, replicate}
 use Rattle.lists.specs.Bytes.{padded}
 use Rattle.program.specs.declared.Program.{Program}
 use Rattle.program.specs.Clauses.{Clause}
+use Rattle.program.specs.Held.{nothingHeld}
 
 -- names, each in a place of eight bytes
 unfoldable pub placed : List (List ℕ) → List ℕ
 placed ns = flatMap (padded 8) ns
 
--- "A table is the read book; unused places in it hold zero."
+-- "A table is the read book; unused places in it hold zero.", and nothing is held
 unfoldable pub tableOf : List (List ℕ) → List Clause → Program
 tableOf ns cs = record {
   «atom_count» = length ns;
@@ -19,6 +20,7 @@ tableOf ns cs = record {
   heads = padded 64 (map (λ c. c .head) cs);
   bodies = padded 64 (map (λ c. c .body) cs);
   nafs = padded 64 (map (λ c. c .naf) cs);
+  held = nothingHeld;
 }
 
 -- "an all-zero table"
@@ -30,4 +32,5 @@ zeroTable = record {
   heads = replicate 64 0;
   bodies = replicate 64 0;
   nafs = replicate 64 0;
+  held = nothingHeld;
 }

@@ -93,7 +93,7 @@ pub leaves-of : (p : Program) → hits (leafOf p) (nodesOf p) ≡ models (p .«a
 leaves-of p = leaves-are-models (dead (clauses p)) (p .«atom_count») (clauses p) (dead-harmless (clauses p))
 
 module _ (p : Program) (A : ℕ) (l : List ℕ) where
-  -- a table that the reader could give: the answer and the list of the run; any other: refusal 9, and the list as it was
+  -- a table that 9 does not refuse: the answer and the list of the run; any other: refusal 9, and the list as it was
   pub accepted : valid p ≡ true → (answerOf p A l ≡ runAnswer (leafOf p) (nodesOf p) A (length l)) × (exitOf p A l ≡ runExit (leafOf p) (nodesOf p) A l)
   unfolding answerOf exitOf refusal lowest
   accepted v = (rw v, rw v)

@@ -3,6 +3,8 @@ use answers::ANY;
 use answers::Answer;
 use answers::FREE;
 use answers::PLACES;
+use hold::ClearAnswer;
+use hold::HoldAnswer;
 use program::Program;
 use summary::Summary;
 
@@ -45,6 +47,18 @@ pub fn fixpoint(p: Program, list: &mut [u32]) -> Answer {
 
 pub fn check(p: Program, w: u32) -> Answer {
     answers::of_checked(stable::check(p, w), w as u64)
+}
+
+pub fn hold(p: Program, head: u32, body: u32, naf: u32) -> HoldAnswer {
+    hold::hold(p, head, body, naf)
+}
+
+pub fn keep(p: Program) -> ClearAnswer {
+    hold::keep(p)
+}
+
+pub fn release(p: Program) -> ClearAnswer {
+    hold::release(p)
 }
 
 pub fn summarize(p: Program, words: &[u32]) -> Summary {

@@ -1,4 +1,4 @@
-// Tries the engine from outside, by its public calls alone: books with stored models, lists with stored summaries, candidates with stored answers, trees with stored counts.
+// Tries the engine from outside, by its public calls alone: books with stored models, lists with stored summaries, candidates with stored answers, trees with stored counts, clauses that are held and kept.
 // A line for each family says how many were tried and how many agree.
 // What is asked of a book stands in a file for each family, and the calls themselves in `asking`.
 // The first disagreement is printed with both answers and its record's label, and ends the program.
@@ -6,6 +6,7 @@ mod asking;
 mod candidates;
 mod checks;
 mod fixpoints;
+mod holdings;
 mod nodes;
 mod saying;
 mod searches;
@@ -35,6 +36,7 @@ enum Family {
     Summaries,
     Checks,
     Nodes,
+    Holdings,
 }
 
 // What is stored in a file beside each book.
@@ -43,6 +45,7 @@ enum Stored {
     Summaries,
     Checks,
     Nodes,
+    Holdings,
 }
 
 fn tried_if(agrees: bool) -> Tried {
@@ -62,6 +65,7 @@ fn ask(family: Family, text: &[u8], words: &[u32]) -> Tried {
         Family::Summaries => tried_if(summaries::agrees(p, words)),
         Family::Checks => tried_if(checks::agrees(p, words)),
         Family::Nodes => tried_if(nodes::agrees(p, words)),
+        Family::Holdings => tried_if(holdings::agrees(text, words)),
     }
 }
 
@@ -189,6 +193,7 @@ fn print_family(family: Family) {
         Family::Summaries => saying::print(b"  summed up: "),
         Family::Checks => saying::print(b"  checks, with clause and subset: "),
         Family::Nodes => saying::print(b"  nodes counted: "),
+        Family::Holdings => saying::print(b"  held, let go and kept: "),
     }
 }
 
@@ -243,15 +248,17 @@ fn try_file(path: &[u8], stored: Stored) -> bool {
         Stored::Summaries => try_family(Family::Summaries, &file[..n]),
         Stored::Checks => try_family(Family::Checks, &file[..n]),
         Stored::Nodes => try_family(Family::Nodes, &file[..n]),
+        Stored::Holdings => try_family(Family::Holdings, &file[..n]),
     }
 }
 
-// Document 01's samples, the paper's examples, random books with the models that an outside solver gives, lists with their summaries, candidates with their answers, and trees with their counts.
+// Document 01's samples, the paper's examples, random books with the models that an outside solver gives, lists with their summaries, candidates with their answers, trees with their counts, and clauses to hold.
 fn main() {
     let _ = try_file(b"samples", Stored::Models)
         && try_file(b"paper", Stored::Models)
         && try_file(b"solver", Stored::Models)
         && try_file(b"summaries", Stored::Summaries)
         && try_file(b"checks", Stored::Checks)
-        && try_file(b"nodes", Stored::Nodes);
+        && try_file(b"nodes", Stored::Nodes)
+        && try_file(b"holdings", Stored::Holdings);
 }

@@ -22,7 +22,7 @@ fn print_word(words: &[u8], k: usize) {
 // How a call ended, in the order of the outcomes' numbers.
 fn print_outcome(outcome: u64) {
     let words =
-        b"accepted refused  complete full     spent    stable   violated smaller  number   unstable ";
+        b"accepted refused  complete full     spent    stable   violated smaller  number   unstable new      equal    cleared  nothing  ";
     if outcome == answers::ACCEPTED {
         print_word(words, 0);
     } else if outcome < answers::COMPLETE {
@@ -47,7 +47,7 @@ pub fn agree(source: usize, expected: Answer, found: Answer) -> bool {
         return true;
     }
     print_word(
-        b"reader   writer   search   fixpoint check    summary  list     text     record   ",
+        b"reader   writer   search   fixpoint check    summary  list     text     record   hold     keep     release  ",
         source,
     );
     print_answer(found);

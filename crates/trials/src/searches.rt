@@ -51,7 +51,8 @@ fn is_full(p: Program, limit: u64, words: &[u32]) -> bool {
     lists(p, limit, words.len(), words, expected)
 }
 
-fn is_complete(p: Program, limit: u64, lent: usize, words: &[u32], nodes: u64) -> bool {
+// Whether the search is complete with so many nodes and places, and lists the words.
+pub fn is_complete(p: Program, limit: u64, lent: usize, words: &[u32], nodes: u64) -> bool {
     let expected = answers::of_outcome(Outcome::Complete, words.len() as u64, nodes);
     lists(p, limit, lent, words, expected)
 }

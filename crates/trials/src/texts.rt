@@ -42,6 +42,11 @@ fn is_written(p: Program, lent: usize, written: Written, text: &[u8]) -> bool {
     saying::agree(answers::WRITER, answers::of_written(written), found) && holds(&out, text)
 }
 
+// Whether the writer gives this text.
+pub fn is_text_of(p: Program, text: &[u8]) -> bool {
+    is_written(p, BYTES, Written::Length(text.len()), text)
+}
+
 pub fn agrees(text: &[u8]) -> bool {
     let n = text.len();
     if n == 0 {
@@ -50,7 +55,7 @@ pub fn agrees(text: &[u8]) -> bool {
     let p = asking::table_of(text);
     let accepted = answers::of_verdict(Verdict::Accepted, 0);
     saying::agree(answers::READER, accepted, asking::read(text))
-        && is_written(p, BYTES, Written::Length(n), text)
+        && is_text_of(p, text)
         && is_written(p, n, Written::Length(n), text)
         && is_written(p, n - 1, Written::Refused(program::SLICE_TOO_SHORT), &[])
 }

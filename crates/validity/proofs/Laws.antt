@@ -3,17 +3,19 @@ use mathlib.Core.Path.{_≡_, ap, ap₂, _∙_}
 use mathlib.Core.Bool.{Bool, true, false, not, _&&_, and-false}
 use mathlib.Core.List.{List}
 use Prim.Native.Nat.{ℕ, _+_, _-_, _*_, _≤_, _<_}
-use lib.Dec.{eqb, leb}
+use lib.Dec.{eqb, leb, ltb}
 use lib.ListN.{length, getD, take, drop}
 use borrow.Author.Tests.{le-leb, lt-leb}
 use Rattle.sets.specs.Lists.{every, tabulate}
 use Rattle.lists.specs.Bytes.{index, same, distinct, EndsAt}
 use Rattle.lists.proofs.Loops.{Held, held-not, held-done}
+use Rattle.program.specs.declared.HeldClause.{HeldClause}
 use Rattle.program.specs.declared.Program.{Program}
 use Rattle.program.specs.Clauses.{clauseOf, clauseAt}
+use Rattle.program.specs.Held.{heldClause}
 use Rattle.program.specs.Values.{isWord}
 use Rattle.program.specs.Names.{isName, place}
-use Rattle.program.specs.Valid.{zeroFrom, isPlace, namesValid, isClause, clausesValid, valid}
+use Rattle.program.specs.Valid.{zeroFrom, isPlace, namesValid, isClause, clausesValid, heldValid, valid}
 use Rattle.program.proofs.Places.{end-zero, place-part}
 
 -- ---- zeros from a place on
@@ -70,7 +72,18 @@ module _ (hs bs ns : List ℕ) (count n : ℕ) where
   unfolding clausesValid
   clauses-are a b c d h e f g k = rw (le-leb count 64 h, ← e, ← f, ← g, ← k)
 
-pub valid-is : (p : Program) (a b : Bool) → a ≡ namesValid (p .«atom_names») (p .«atom_count»)
-    → b ≡ clausesValid (p .heads) (p .bodies) (p .nafs) (p .«clause_count») (p .«atom_count») → a && b ≡ valid p
+-- ---- the separate place
+module _ (h : HeldClause) (count n : ℕ) where
+  pub used-is : (a b : Bool) → h .«in_use» ≡ true → a ≡ isClause n (heldClause h) → b ≡ ltb count 64 → a && b ≡ heldValid h count n
+  unfolding heldValid
+  used-is a b u e f = rw (u, ← e, f)
+
+  pub unused-is : (a b c : Bool) → h .«in_use» ≡ false → a ≡ eqb (h .head) 0 → b ≡ eqb (h .body) 0 → c ≡ eqb (h .naf) 0 → a && b && c ≡ heldValid h count n
+  unfolding heldValid
+  unused-is a b c u e f g = rw (u, e, f, g)
+
+pub valid-is : (p : Program) (a b c : Bool) → a ≡ namesValid (p .«atom_names») (p .«atom_count»)
+    → b ≡ clausesValid (p .heads) (p .bodies) (p .nafs) (p .«clause_count») (p .«atom_count»)
+    → c ≡ heldValid (p .held) (p .«clause_count») (p .«atom_count») → a && b && c ≡ valid p
 unfolding valid
-valid-is p a b e f = rw (← e, ← f)
+valid-is p a b c e f g = rw (← e, ← f, ← g)

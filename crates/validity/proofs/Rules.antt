@@ -19,6 +19,8 @@ pub ruleset rules = (
   laws.clause-is,
   laws.clauses-many,
   laws.clauses-are,
+  laws.used-is,
+  laws.unused-is,
   laws.valid-is,
   loops,
 )

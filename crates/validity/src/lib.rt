@@ -1,11 +1,12 @@
-// The test of refusal 9: whether the reader could give a table.
+// The test of refusal 9: whether the reader could give a table, but for a clause that it may hold.
 ghost use mathlib.Core.Path.{_≡_};
 ghost use Prim.Native.Nat.{_+_, _≤_, _<_};
 ghost use Rattle.sets.specs.Lists.{every, anyOf, onward, tabulate};
 ghost use Rattle.lists.specs.Bytes.{same, distinct};
 ghost use Rattle.program.specs.Clauses.{clauseOf, clauseAt};
 ghost use Rattle.program.specs.Names.{place};
-ghost use Rattle.program.specs.Valid.{zeroFrom, isPlace, namesValid, isClause, clausesValid, valid};
+ghost use Rattle.program.specs.Valid.{zeroFrom, isPlace, namesValid, isClause, clausesValid, heldValid, valid};
+use program::HeldClause;
 use program::Program;
 
 // ---- unused places
@@ -122,7 +123,8 @@ fn names_valid(names: &[u8; program::ALL_NAME_BYTES], n: usize) -> bool
 }
 
 // ---- the clauses of a table
-fn clause_holds(n: usize, head: u32, body: u32, naf: u32) -> bool
+// Whether the three parts are a clause over `n` atoms: not all of them are empty, and none has a bit outside.
+pub fn is_clause(n: usize, head: u32, body: u32, naf: u32) -> bool
     ensures { λ r. ⌜ r ≡ isClause n (clauseOf head body naf) ⌝ }
 {
     program::is_word(n, head)
@@ -143,7 +145,7 @@ fn clauses_hold<'a>(
 {
     let mut k: usize = 0;
     while k < count {
-        if !clause_holds(n, heads[k], bodies[k], nafs[k]) {
+        if !is_clause(n, heads[k], bodies[k], nafs[k]) {
             return false;
         }
         k += 1;
@@ -169,12 +171,26 @@ fn clauses_valid<'a>(
         & zero_words(nafs, count)
 }
 
-// Whether the reader could give `p`.
+// ---- the separate place
+// Whether it has a clause that may be held, or nothing and is zero.
+fn held_valid(held: HeldClause, count: usize, n: usize) -> bool
+    ensures { λ r. ⌜ r ≡ heldValid held count n ⌝ }
+{
+    if held.in_use {
+        return is_clause(n, held.head, held.body, held.naf) & (count < program::MOST_CLAUSES);
+    }
+    (held.head == 0) & (held.body == 0) & (held.naf == 0)
+}
+
+// Whether the reader could give `p`, but for a clause that it may hold.
 pub fn is_valid(p: Program) -> bool
     ensures { λ r. ⌜ r ≡ valid p ⌝ }
 {
     let n = p.atom_count;
     let count = p.clause_count;
     let names = p.atom_names;
-    names_valid(&names, n) & clauses_valid(&p.heads, &p.bodies, &p.nafs, count, n)
+    let held = p.held;
+    names_valid(&names, n)
+        & clauses_valid(&p.heads, &p.bodies, &p.nafs, count, n)
+        & held_valid(held, count, n)
 }

@@ -41,7 +41,7 @@ unfolding clauseValues clauseValue
 clause-most c n h = row-most (clauseValue c) n 1 h (λ i l. omega (arith, value-lt (c .head) i, value-lt (c .body) i, value-lt (c .naf) i))
 
 module _ (p : Program) (v : valid p ≡ true) where
-  text-most : length (render p) ≤ 4096
+  pub text-most : length (render p) ≤ 4096
   unfolding render bookText namesOf
   text-most =
       let s = valid-names p v in

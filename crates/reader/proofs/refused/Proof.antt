@@ -1,12 +1,11 @@
--- `reader::refused` is the all-zero table and the number. Assumes nothing.
-use mathlib.Core.Path.{refl}
-use Rattle.text.specs.Tables.{zeroTable}
+-- `reader::refused` is the all-zero table, with nothing held, and the number (`zero-is`). Assumes nothing.
+use borrow.Author.Needs.{needs}
+use Rattle.reader.proofs.Answers.{zero-is}
 use Rattle.reader.proofs.refused.Statement.{statement}
 use Rattle.reader.proofs.refused.Tie as tie
 
 returns : tie.Need-returns
-unfolding zeroTable
-returns c = refl
+returns c = search zero-is
 
 pub refused-spec : {M : Type 1} → statement M
-refused-spec = tie.close (tie.spec returns)
+refused-spec = tie.close (tie.spec (λ c κs. search needs) returns)

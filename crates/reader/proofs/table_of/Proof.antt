@@ -8,4 +8,4 @@ returns : tie.Need-returns
 returns c = search table-is
 
 pub table-of-spec : {M : Type 1} → statement M
-table-of-spec = tie.close (tie.spec (λ c. search needs) returns)
+table-of-spec = tie.close (tie.spec (λ c. search needs) (λ c κs. search needs) returns)

@@ -1,4 +1,4 @@
--- `summing::put_written` meets its contract: with room for its text the writer never refuses a table that was read. Assumes nothing.
+-- `summing::put_written` meets its contract: with room for its text the writer never refuses a table that 9 does not refuse. Assumes nothing.
 use borrow.Author.Needs.{needs}
 use Rattle.summing.proofs.Texts.{text-wrote, never-refused}
 use Rattle.summing.proofs.put_written.Statement.{statement}

@@ -1,0 +1,10 @@
+-- `hold::is_equal` meets its contract: the three comparisons of the definition. Assumes nothing.
+use mathlib.Core.Path.{refl}
+use Rattle.hold.proofs.is_equal.Statement.{statement}
+use Rattle.hold.proofs.is_equal.Tie as tie
+
+returns : tie.Need-returns
+returns c = refl
+
+pub is-equal-spec : {M : Type 1} → statement M
+is-equal-spec = tie.close (tie.spec returns)

@@ -1,0 +1,3 @@
+-- What holding, keeping and releasing a clause answer.
+pub mod Holding
+pub mod Clearing

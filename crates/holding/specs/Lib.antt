@@ -1,0 +1,2 @@
+-- What `hold` and `keep` say of a table.
+pub mod Texts
