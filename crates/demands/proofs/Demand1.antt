@@ -44,7 +44,8 @@ use Rattle.tree.specs.Answer.{answer, leafOf, nodesOf, overfull, fullAt, runAns
 use Rattle.tree.specs.Answer as searching
 use Rattle.fixpoint.specs.Answer.{roomOf}
 use Rattle.fixpoint.specs.Answer as fixing
-use Rattle.demands.specs.Demand1.{Lent, Told, Call, read, write, check, summarize, search, fixpoint, hold, keep, release, told-back, told, Answers, numbersOf, ofWritten, ofChecked, MayHold, Given, Demand1}
+use Rattle.demands.specs.Demand1.{Call, read, write, check, summarize, search, fixpoint, hold, keep, release}
+use Rattle.demands.specs.Demand1.{Lent, Told, told-back, told, Answers, numbersOf, ofWritten, ofChecked, MayHold, Given, Demand1}
 
 not-both : {A : Type 0} {v : Verdict} {n : ℕ} → v ≡ Accepted → v ≡ Refused n → A
 not-both a b = absurd (let z : _≡_ {A = ℕ} 0 1 = cc in omega arith)

@@ -79,7 +79,8 @@ taken-valid p out z = go (valid p) z
     go true e = refl
     go false e = absurd (omega arith)
 
-again : (p : Program) → Sized p → (out : List ℕ) (a : Written) (exit : List ℕ) → Writes p out a exit → (n : ℕ) → a ≡ Length n → readOf (take n exit) ≡ record { verdict = Accepted; program = released p }
+again : (p : Program) → Sized p → (out : List ℕ) (a : Written) (exit : List ℕ) → Writes p out a exit → (n : ℕ) → a ≡ Length n
+    → readOf (take n exit) ≡ record { verdict = Accepted; program = released p }
 again p s out a exit w n e =
     let z = taken p out n (sym (w .answer) ∙ e) in
     let t = writings.accepted p out z in

@@ -22,7 +22,7 @@ use Rattle.hold.specs.declared.HoldStatus.the-variants as holds
 use Rattle.hold.specs.declared.ClearStatus.the-variants as clears
 use Rattle.hold.specs.declared.ClearAnswer.{ClearAnswer}
 use Rattle.hold.specs.Holding.{stands, holdRefusal, answer, holdOf, ofHold}
-use Rattle.hold.specs.Clearing.{kept, clearRefusal, clearing, clearedOf, keepOf, releaseOf, ofClear}
+use Rattle.hold.specs.Clearing.{kept, clearRefusal, clearing, clearedOf, ofClear}
 
 -- ---- an equal clause
 module _ (f : ℕ → Clause) (n : ℕ) (c : Clause) (i : ℕ) (s : Lacks f n (isEqual c) 0 i) where
@@ -155,10 +155,6 @@ module _ (p q : Program) where
   unfolding clearedOf
   clear-refused d = rw (ne-eqb (clearRefusal p) 0 d)
 
-  clear-nine : valid p ≡ false → clearing (clears.Refused 9) p ≡ clearedOf p q
-  unfolding clearedOf clearRefusal lowest
-  clear-nine v = rw v
-
   pub clear-done : valid p ≡ true → p .held .«in_use» ≡ true → clearedOf p q ≡ clearing clears.Cleared q
   unfolding clearRefusal lowest
   clear-done v u = clear-taken (rw v) ∙ rw u
@@ -167,27 +163,18 @@ module _ (p q : Program) where
   unfolding clearRefusal lowest
   clear-nothing v u = clear-taken (rw v) ∙ rw u
 
-module _ (p : Program) (r : ClearAnswer) where
-  pub keep-refused : valid p ≡ false → r ≡ clearing (clears.Refused 9) p → r ≡ keepOf p
-  unfolding keepOf
-  keep-refused v e = e ∙ clear-nine p (kept p) v
+-- the same as the code of both comes to it
+module _ (p q : Program) (r : ClearAnswer) where
+  pub clears-nine : valid p ≡ false → r ≡ clearing (clears.Refused 9) p → r ≡ clearedOf p q
+  unfolding clearedOf clearRefusal lowest
+  clears-nine v e = e ∙ rw v
 
-  pub keep-done : (q : Program) → valid p ≡ true → p .held .«in_use» ≡ true → q ≡ kept p → r ≡ clearing clears.Cleared q → r ≡ keepOf p
-  unfolding keepOf
-  keep-done q v u f e = e ∙ ap (clearing clears.Cleared) f ∙ sym (clear-done p (kept p) v u)
+  pub clears-held : (s : Program) → valid p ≡ true → p .held .«in_use» ≡ true → s ≡ q → r ≡ clearing clears.Cleared s → r ≡ clearedOf p q
+  clears-held s v u f e = e ∙ ap (clearing clears.Cleared) f ∙ sym (clear-done p q v u)
 
-  pub keep-nothing : valid p ≡ true → p .held .«in_use» ≡ false → r ≡ clearing clears.NothingHeld p → r ≡ keepOf p
-  unfolding keepOf
-  keep-nothing v u e = e ∙ sym (clear-nothing p (kept p) v u)
+  pub clears-nothing : valid p ≡ true → p .held .«in_use» ≡ false → r ≡ clearing clears.NothingHeld p → r ≡ clearedOf p q
+  clears-nothing v u e = e ∙ sym (clear-nothing p q v u)
 
-  pub release-refused : valid p ≡ false → r ≡ clearing (clears.Refused 9) p → r ≡ releaseOf p
-  unfolding releaseOf
-  release-refused v e = e ∙ clear-nine p (released p) v
-
-  pub release-done : (q : Program) (h : HeldClause) → valid p ≡ true → p .held .«in_use» ≡ true → h ≡ nothingHeld → q ≡ holding p h → r ≡ clearing clears.Cleared q → r ≡ releaseOf p
-  unfolding releaseOf released
-  release-done q h v u g f e = e ∙ ap (clearing clears.Cleared) (f ∙ ap (holding p) g) ∙ sym (clear-done p (released p) v u)
-
-  pub release-nothing : valid p ≡ true → p .held .«in_use» ≡ false → r ≡ clearing clears.NothingHeld p → r ≡ releaseOf p
-  unfolding releaseOf
-  release-nothing v u e = e ∙ sym (clear-nothing p (released p) v u)
+pub released-is : (p s : Program) (h : HeldClause) → h ≡ nothingHeld → s ≡ holding p h → s ≡ released p
+unfolding released
+released-is p s h g f = f ∙ ap (holding p) g

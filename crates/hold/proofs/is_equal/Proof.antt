@@ -1,4 +1,4 @@
--- `hold::is_equal` meets its contract: the three comparisons of the definition. Assumes nothing.
+-- `hold::is_equal` meets its contract by the three comparisons; written out so that a wrong one is refused here. Assumes nothing.
 use mathlib.Core.Path.{refl}
 use Rattle.hold.proofs.is_equal.Statement.{statement}
 use Rattle.hold.proofs.is_equal.Tie as tie

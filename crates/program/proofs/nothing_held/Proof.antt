@@ -1,4 +1,4 @@
--- `program::nothing_held` meets its contract: it is the definition, field by field. Assumes nothing.
+-- `program::nothing_held` meets its contract, field by field; written out so that a wrong field is refused here. Assumes nothing.
 use mathlib.Core.Path.{refl}
 use Rattle.program.proofs.nothing_held.Statement.{statement}
 use Rattle.program.proofs.nothing_held.Tie as tie
