@@ -13,14 +13,17 @@ In crates/trials/data:
               of a book with clauses its models, by clingo, also where it has none; of a book without clauses one in which each name takes one, two, three, four values, or any number of them
   checks      a book with candidates, each followed by what the check finds, by its definition: 0 0 for p-stable, 1 and the violated clause, 2 and the least smaller subset
   nodes       a book with the number of nodes of its tree, and for each of its models how many nodes are visited when it is come to; the tree is formed here by its definition, and the models are clingo's
-  holdings    a book with a clause as its last line, behind the equals sign the clause's three words, 0 where no equal clause stands before it and 1 where one does, the bytes before that line,
-              number of models, nodes and models without the clause, and nodes and models with it; or a book and a clause that is refused: the refusal, all bytes, and the book's nodes and models twice
+  days        a book with a day, the number that refuses the fixpoint on it or 0, the number of models, the number of nodes, the models, and candidates as in `checks`;
+              models, nodes and answers are those of the book with the clauses that are not of the day left out, but that a clause has the number of its line
+  holdings    a book with a clause as its last line, behind the equals sign the clause's three words and two days, a day, 0 where no equal clause stands before it and 1 where one does,
+              the bytes before that line, number of models, nodes and models without the clause on that day, and nodes and models with it;
+              or a book and a clause that is refused: the refusal, all bytes, and the book's nodes and models twice
 
 In crates/edges/data:
 
   refusals    texts, each with the number that refuses it, 0 where it is taken
-  vocabulary  books, each with the number that refuses its fixpoint, 0 where W is at most 64
-  rooms       books, each with the number of members of its largest stage, formed here by its definition
+  vocabulary  books, each with the number that refuses its fixpoint on day 0, 0 where W is at most 64
+  rooms       books, each with the number of members of its largest stage on day 0, formed here by its definition
   tables      a book, a field of its table, a place in it and a value put there, and 9, or 0 where the table is then not refused
 """
 import itertools
@@ -36,6 +39,11 @@ MOST_LARGE = 3
 CHECKED_BOOKS = 12
 COUNTED_BOOKS = 12
 HELD_BOOKS = 10
+LAST_DAY = 65535
+MOST_LISTED = 40
+HELD_DATED_BOOKS = 6
+MOST_NODES = 20000
+TWELVE = ' '.join('abcdefghijkl')
 HERE = os.path.dirname(os.path.abspath(__file__))
 TRIALS = os.path.join(HERE, '..', 'crates', 'trials', 'data')
 EDGES = os.path.join(HERE, '..', 'crates', 'edges', 'data')
@@ -46,6 +54,22 @@ EDGES = os.path.join(HERE, '..', 'crates', 'edges', 'data')
 def text_of(names, clauses):
     lines = [' '.join(names)] + [' '.join(str(v) for v in c) for c in clauses]
     return ''.join(line + '\n' for line in lines)
+
+
+def dated_text(names, clauses, spans):
+    """The text of a book in which each clause has a first and a last day; of an undated one where there are no spans."""
+    if spans is None:
+        return text_of(names, clauses)
+    return text_of(names + ['from', 'to'], [c + list(span) for c, span in zip(clauses, spans)])
+
+
+def of_day(clauses, spans, day):
+    """The clauses of a day, each behind its number."""
+    return [(k, c) for k, c in enumerate(clauses) if spans is None or spans[k][0] <= day <= spans[k][1]]
+
+
+def left_on(clauses, spans, day):
+    return [c for _, c in of_day(clauses, spans, day)]
 
 
 def part(values, name_bit, negation_bit):
@@ -481,6 +505,160 @@ def nodes():
             yield f'{kind} {k}', names_for(rng, n), clauses, counted(n, clauses, models)
 
 
+# ---- dated books on their days
+
+def without_days(names, lines):
+    """The names, the clauses and the spans of a book whose lines are given; no spans where it is undated."""
+    if len(names) < 3 or names[-2:] != ['from', 'to']:
+        return names, lines, None
+    return names[:-2], [line[:-2] for line in lines], [tuple(line[-2:]) for line in lines]
+
+
+def found_on(clauses, spans, day, w):
+    """What the check finds on a day; the number of a violated clause is that of its line."""
+    numbered = of_day(clauses, spans, day)
+    kind, number = found([c for _, c in numbered], w)
+    return (kind, numbered[number][0]) if kind == 1 else (kind, number)
+
+
+def is_deep(n, clauses):
+    """Whether the tree has more than MOST_NODES nodes."""
+    rules = [tuple(set(literals) for literals in parts(c)) for c in clauses]
+    return next(itertools.islice(visits(rules, 2 * n, frozenset()), MOST_NODES, None), None) is not None
+
+
+def answers_on(rng, n, clauses, spans, day):
+    """The numbers of a record for a day; None where it has too many models or nodes, or too large a stage."""
+    today = left_on(clauses, spans, day)
+    models = solve(today)
+    if models is None or len(models) > MOST_LISTED or is_deep(n, today) or is_large(n, today):
+        return None
+    refusal = 11 if transformed(n, today)[1] > 64 else 0
+    words = set(models[:2]) | {0}
+    for w in (0, *rng.sample(models, min(2, len(models)))):
+        words |= {grown(rng, today, w | sum(1 << b for b in some_of(rng, n, 0, 2)), 9), grown(rng, clauses, w, 9)}
+    words = sorted(w for w in words if bin(w).count('1') <= 9)
+    return [day, refusal, len(models), counted(n, today, models)[0]] + models + [x for w in words for x in (w, *found_on(clauses, spans, day, w))]
+
+
+def spans_for(rng, count):
+    """Spans between a few days, so that they meet, overlap, lie apart or are one day."""
+    marks = sorted(rng.sample(range(LAST_DAY + 1) if rng.random() < 0.6 else range(12), 4))
+    spans = []
+    for _ in range(count):
+        first, last = sorted(rng.choices(marks, k=2))
+        spans.append(rng.choice([(first, last), (first, last), (0, last), (first, LAST_DAY), (0, LAST_DAY), (first, first)]))
+    return spans
+
+
+def days_around(spans, k):
+    """The first day and the last, and around the span k the day before, its first, one between, its last and the day behind."""
+    first, last = spans[k]
+    return sorted({day for day in (0, first - 1, first, (first + last) // 2, last, last + 1, LAST_DAY) if 0 <= day <= LAST_DAY})
+
+
+# written out: the refusal of the fixpoint, the number of models, the nodes, the models, and candidates with what the check finds
+FACT = '1 5 9'
+TURN = '1 0 9 / 2 10 65535'
+MEET = '1 0 10 / 2 10 65535'
+BARRED = '1 0 65535 / 4 3 3'
+BEHIND = '2 9 9 / 1 0 8 / 2 10 65535 / 1 0 65535'
+ONE, NONE = '0 1 5 1 0 1 0 1 0 0 3 2 1', '0 1 5 0 0 0 0 1 2 0 2 2 0 3 2 0'
+MEMBERS = ' / '.join(['5 0 32 0 0 0 0 0 0 0 0 0 5 10'] + ['5 0 32 0 0 0 0 0 0 0 0 0 0 8'] * 16)
+DAYS = [
+    ('a fact, day 0', 'a from to', FACT, 0, NONE),
+    ('a fact, the day before', 'a from to', FACT, 4, NONE),
+    ('a fact, its first day', 'a from to', FACT, 5, ONE),
+    ('a fact, between', 'a from to', FACT, 7, ONE),
+    ('a fact, its last day', 'a from to', FACT, 9, ONE),
+    ('a fact, the day behind', 'a from to', FACT, 10, NONE),
+    ('a fact, the last day of all', 'a from to', FACT, 65535, NONE),
+    ('a fact for one day, before', 'a from to', '1 7 7', 6, NONE),
+    ('a fact for one day', 'a from to', '1 7 7', 7, ONE),
+    ('a fact for one day, behind', 'a from to', '1 7 7', 8, NONE),
+    ('a fact for day 0', 'a from to', '1 0 0', 0, ONE),
+    ('a fact for day 0, day 1', 'a from to', '1 0 0', 1, NONE),
+    ('a fact for the last day, the day before', 'a from to', '1 65535 65535', 65534, NONE),
+    ('a fact for the last day', 'a from to', '1 65535 65535', 65535, ONE),
+    ('a fact until a day of one byte and all bits, behind', 'a from to', '1 0 255', 256, NONE),
+    ('a fact from a day of two bytes, before', 'a from to', '1 256 65535', 255, NONE),
+    ('a fact from a day of two bytes', 'a from to', '1 256 65535', 256, ONE),
+    ('a fact for all days, day 0', 'a from to', '1 0 65535', 0, ONE),
+    ('a fact for all days, the last', 'a from to', '1 0 65535', 65535, ONE),
+    ('an undated fact, day 0', 'a', '1', 0, ONE),
+    ('an undated fact, day 7', 'a', '1', 7, ONE),
+    ('an undated fact, the last day', 'a', '1', 65535, ONE),
+    ('no clause, day 0', 'a from to', '', 0, NONE),
+    ('no clause, the last day', 'a from to', '', 65535, NONE),
+    ('no clause, undated', 'a', '', 9, NONE),
+    ('all expired', 'a from to', '1 0 3 / 2 4 8 / 4 1 1', 9, NONE),
+    ('all still to come', 'a from to', '1 10 30 / 2 11 11 / 4 65535 65535', 9, NONE),
+    ('a turn, the last day before it', 'a from to', TURN, 9, '0 1 5 1 0 1 0 1 0 0 2 1 0 3 2 1'),
+    ('a turn, the first day behind it', 'a from to', TURN, 10, '0 1 5 2 0 1 1 1 1 1 2 0 0 3 2 2'),
+    ('both on one day', 'a from to', MEET, 10, '0 1 5 3 0 1 0 1 1 1 2 1 0 3 0 0'),
+    ('a constraint, the day before', 'a from to', BARRED, 2, '0 1 5 1 0 1 0 1 0 0 3 2 1'),
+    ('a constraint, its day', 'a from to', BARRED, 3, '0 0 5 0 1 0 1 1 1 2 1 0 3 1 1'),
+    ('a constraint, the day behind', 'a from to', BARRED, 4, '0 1 5 1 0 1 0 1 0 0 3 2 1'),
+    ('the number of the last line', 'a from to', BEHIND, 10, '0 1 5 3 0 1 2 1 1 2 2 1 3 3 0 0'),
+    ('the number of the second line', 'a from to', BEHIND, 8, '0 1 5 1 0 1 1 2 1 1 1 0 0 3 2 1'),
+    ('the number of the first line', 'a from to', BEHIND, 9, '0 1 5 3 0 1 0 1 1 0 2 1 3 3 0 0'),
+    ('W 64', TWELVE + ' from to', MEMBERS, 4, '0 1 49 0 0 0 0 1 2 0'),
+    ('W 65, the first day', TWELVE + ' from to', MEMBERS, 5, '11 1 49 0 0 0 0 1 2 0'),
+    ('W 65, the last day', TWELVE + ' from to', MEMBERS, 8, '11 1 49 0 0 0 0 1 2 0'),
+    ('W 49', TWELVE + ' from to', MEMBERS, 9, '0 1 49 0 0 0 0 1 2 0'),
+    ('W 48', TWELVE + ' from to', MEMBERS, 11, '0 1 49 0 0 0 0 1 2 0'),
+]
+
+# the names line and the lines of a book; its days are those around its first span
+DATED = [
+    ('names from and to behind another', 'a from to from to', '1 1 0 5 9 / 2 0 0 9 9 / 0 2 0 0 65535 / 0 0 1 4 10'),
+    ('names from and to', 'from to from to', '1 0 3 8 / 4 1 0 65535 / 16 2 5 5'),
+    ('names to and from', 'to from from to', '1 0 3 8 / 4 1 0 65535 / 16 2 5 5'),
+    ('a name from', 'from from to', '3 65534 65535 / 16 0 65534'),
+    ('a name to', 'to from to', '3 0 1 / 32 1 65535'),
+    ('no clause, two names', 'a b from to', ''),
+    ('no clause, twelve names', TWELVE + ' from to', ''),
+    ('days that follow on each other', 'a b from to', '1 0 1 1 / 2 0 2 2 / 0 1 3 3 / 0 2 4 4 / 3 3 0 0'),
+    ('a default that expires before its exception', 'fell due from to', '1 0 30 60 / 16 1 0 45 / 2 0 50 65535'),
+    ('equal clauses on other days', 'a b c from to', '1 1 0 5 9 / 1 1 0 7 9 / 1 1 0 9 20 / 2 0 0 9 9'),
+    ('the tenth of document 01, a clause each day', 'a b c from to', '1 0 0 1 3 / 0 1 0 2 3 / 16 16 1 3 4'),
+    ('64 clauses, one for each day', 'a b from to', ' / '.join(f'{[1, 2, 4, 16, 33][k % 5]} {[0, 1, 2, 8][k % 4]} {k} {k}' for k in range(64))),
+    ('64 clauses, one more each day', 'a b c from to', ' / '.join(f'{[1, 4, 20][k % 3]} {[0, 2, 16][k % 7 % 3]} {[0, 1, 3, 32][k % 4]} {60 - k if k < 60 else 0} 65535' for k in range(64))),
+]
+
+DATED_KINDS = [('dense', 14), ('disjunction', 7), ('loop', 7), ('constraint', 7), ('default', 7), ('ten', 4), ('few', 3), ('many', 2)]
+
+
+def days_of(label, names, clauses, spans, days):
+    """A record for each of the days that is small enough."""
+    rng = random.Random(f'{SEED} days {label}')
+    for day in days:
+        numbers = answers_on(rng, len(names), clauses, spans, day)
+        if numbers is not None:
+            yield f'{label}, day {day}', dated_text(names, clauses, spans), numbers
+
+
+def days():
+    for label, names, lines, day, numbers in DAYS:
+        yield label, text_of(names.split(), rows(lines)), [day] + [int(x) for x in numbers.split()]
+    for label, names, lines in DATED:
+        names, clauses, spans = without_days(names.split(), rows(lines))
+        yield from days_of(label, names, clauses, spans, days_around(spans, 0) if spans else [0, 9, LAST_DAY])
+    makers = {kind: make for kind, _, make in KINDS}
+    for kind, count in DATED_KINDS:
+        rng = random.Random(f'{SEED} days {kind}')
+        for k in range(1, count + 1):
+            clauses = []
+            while not clauses:
+                n, clauses = makers[kind](rng)
+                clauses = [c for c in clauses if any(c)]
+            spans = spans_for(rng, len(clauses))
+            yield from days_of(f'{kind} {k}', names_for(rng, n), clauses, spans, days_around(spans, rng.randrange(len(spans))))
+        n, clauses = makers[kind](rng)
+        clauses = [c for c in clauses if any(c)]
+        yield from days_of(f'{kind}, undated', names_for(rng, n), clauses, None, [0, rng.randint(1, LAST_DAY - 1), LAST_DAY])
+
+
 # ---- clauses that are held and kept
 
 def clause_words(values):
@@ -495,72 +673,124 @@ def weighed(n, clauses):
     return counted(n, clauses, models)[0], models
 
 
-def held(names, clauses, values):
+def held(names, clauses, spans, values, span, day):
     """The text and the numbers of a clause that is taken; None where one of the two books is too large."""
-    before, after = weighed(len(names), clauses), weighed(len(names), clauses + [values])
+    all_clauses, all_spans = clauses + [values], None if spans is None else spans + [span]
+    before, after = weighed(len(names), left_on(clauses, spans, day)), weighed(len(names), left_on(all_clauses, all_spans, day))
     if before is None or after is None:
         return None
-    size = len(text_of(names, clauses))
+    equal = values in clauses if spans is None else (values, span) in zip(clauses, spans)
     (nodes, models), (nodes_after, models_after) = before, after
-    return text_of(names, clauses + [values]), clause_words(values) + [int(values in clauses), size, len(models), nodes] + models + [nodes_after] + models_after
+    numbers = [*span, day, int(equal), len(dated_text(names, clauses, spans)), len(models), nodes]
+    return dated_text(names, all_clauses, all_spans), clause_words(values) + numbers + models + [nodes_after] + models_after
 
 
-def not_held(names, clauses, words, refusal):
+def not_held(names, clauses, words, span, day, refusal):
     """The text and the numbers of a clause that is refused."""
-    nodes, models = weighed(len(names), clauses)
     text = text_of(names, clauses)
-    return text, words + [refusal, len(text), len(models), nodes] + models + [nodes] + models
+    names, clauses, spans = without_days(names, clauses)
+    nodes, models = weighed(len(names), left_on(clauses, spans, day))
+    return text, words + [*span, day, refusal, len(text), len(models), nodes] + models + [nodes] + models
 
 
-# written out: whether an equal clause stands, the bytes before the last line, how many models the book has without it, its nodes and models, and the nodes and models with it
+# written out: the clause's words and its two days; then a day, whether an equal clause stands, the bytes before the last line,
+# how many models the book has without it, its nodes and models, and the nodes and models with it
 HELD = [
-    ('a fact', 'a b', '1 0 / 4 1', '4 1 0', '0 8 1 9 1 13 5'),
-    ('an equal clause', 'a', '1 / 1', '1 0 0', '1 4 1 5 1 5 1'),
-    ('a constraint', 'a', '1 / 4', '0 1 0', '0 4 1 5 1 5'),
-    ('the first clause', 'a', '2', '2 0 0', '0 2 1 5 0 5 2'),
-    ('a default that takes the model away', 'a', '34', '2 0 2', '0 2 1 5 0 3'),
-    ('equal head and body, another not-part', 'a b', '1 16 / 1 32', '1 0 8', '0 9 1 9 1 9 1'),
+    ('a fact', 'a b', '1 0 / 4 1', '4 1 0 0 0', '0 0 8 1 9 1 13 5'),
+    ('an equal clause', 'a', '1 / 1', '1 0 0 0 0', '0 1 4 1 5 1 5 1'),
+    ('a constraint', 'a', '1 / 4', '0 1 0 0 0', '0 0 4 1 5 1 5'),
+    ('the first clause', 'a', '2', '2 0 0 0 0', '0 0 2 1 5 0 5 2'),
+    ('a default that takes the model away', 'a', '34', '2 0 2 0 0', '0 0 2 1 5 0 3'),
+    ('equal head and body, another not-part', 'a b', '1 16 / 1 32', '1 0 8 0 0', '0 0 9 1 9 1 9 1'),
+    ('a fact, its days passed over', 'a b', '1 0 / 4 1', '4 1 0 9 8', '65535 0 8 1 9 1 13 5'),
+    ('an equal clause, its days passed over', 'a', '1 / 1', '1 0 0 3 4', '5 1 4 1 5 1 5 1'),
+    ('an equal clause, equal days', 'a from to', '1 0 9 / 1 0 9', '1 0 0 0 9', '9 1 16 1 5 1 5 1'),
+    ('an equal clause, another first day', 'a from to', '1 0 9 / 1 1 9', '1 0 0 1 9', '0 0 16 1 5 1 5 1'),
+    ('an equal clause, another last day', 'a from to', '1 0 9 / 1 0 8', '1 0 0 0 8', '9 0 16 1 5 1 5 1'),
+    ('another clause, equal days', 'a from to', '1 0 9 / 2 0 9', '2 0 0 0 9', '9 0 16 1 5 1 5 3'),
+    ('equal to the third of four', 'a from to', '1 0 9 / 2 0 8 / 2 0 9 / 1 1 9 / 2 0 9', '2 0 0 0 9', '9 1 34 1 5 3 5 3'),
+    ('an equal clause that is not of the day', 'a from to', '1 0 9 / 1 0 9', '1 0 0 0 9', '10 1 16 1 5 0 5 0'),
+    ('the day before a clause is of the day', 'a from to', '1 0 9 / 2 10 10', '2 0 0 10 10', '9 0 16 1 5 1 5 1'),
+    ('the day of a clause', 'a from to', '1 0 9 / 2 10 10', '2 0 0 10 10', '10 0 16 1 5 0 5 2'),
+    ('the day behind a clause', 'a from to', '1 0 9 / 2 10 10', '2 0 0 10 10', '11 0 16 1 5 0 5 0'),
+    ('the day before a constraint', 'a from to', '1 0 65535 / 4 10 10', '0 1 0 10 10', '9 0 20 1 5 1 5 1'),
+    ('the day of a constraint', 'a from to', '1 0 65535 / 4 10 10', '0 1 0 10 10', '10 0 20 1 5 1 5'),
+    ('the first clause, on the last day', 'a from to', '2 65535 65535', '2 0 0 65535 65535', '65535 0 10 1 5 0 5 2'),
+    ('the first clause, for all days', 'from to from to', '0 2 0 65535', '8 0 0 0 65535', '777 0 16 1 9 0 9 8'),
 ]
 
 EMPTY = [0, 0, 0]
 NOT_HELD = [
-    ('an empty clause', 'a b', '1 0', EMPTY, 17),
-    ('a head outside', 'a b', '1 0', [16, 0, 0], 17),
-    ('a body outside', 'a b', '1 0', [1, 16, 0], 17),
-    ('a not-part outside', 'a b', '1 0', [1, 0, 16], 17),
-    ('the highest bit', 'a b', '1 0', [2 ** 31, 0, 0], 17),
-    ('all bits', 'a b c d e f', '1 0 0 0 0 0', [2 ** 32 - 1] * 3, 17),
-    ('a head outside twelve names', 'a b c d e f g h i j k l', '1 0 0 0 0 0 0 0 0 0 0 0', [2 ** 24, 0, 0], 17),
-    ('64 clauses', 'a', ' / '.join(['1'] * 64), [1, 0, 0], 18),
-    ('64 clauses and an empty one', 'a', ' / '.join(['1'] * 64), EMPTY, 17),
-    ('64 clauses and one outside', 'a', ' / '.join(['1'] * 64), [4, 0, 0], 17),
+    ('an empty clause', 'a b', '1 0', EMPTY, (0, 0), 0, 17),
+    ('a head outside', 'a b', '1 0', [16, 0, 0], (0, 0), 0, 17),
+    ('a body outside', 'a b', '1 0', [1, 16, 0], (0, 0), 0, 17),
+    ('a not-part outside', 'a b', '1 0', [1, 0, 16], (0, 0), 0, 17),
+    ('the highest bit', 'a b', '1 0', [2 ** 31, 0, 0], (0, 0), 0, 17),
+    ('all bits', 'a b c d e f', '1 0 0 0 0 0', [2 ** 32 - 1] * 3, (0, 0), 0, 17),
+    ('a head outside twelve names', 'a b c d e f g h i j k l', '1 0 0 0 0 0 0 0 0 0 0 0', [2 ** 24, 0, 0], (0, 0), 0, 17),
+    ('64 clauses', 'a', ' / '.join(['1'] * 64), [1, 0, 0], (0, 0), 0, 18),
+    ('64 clauses and an empty one', 'a', ' / '.join(['1'] * 64), EMPTY, (0, 0), 0, 17),
+    ('64 clauses and one outside', 'a', ' / '.join(['1'] * 64), [4, 0, 0], (0, 0), 0, 17),
+    ('an empty clause, its days passed over', 'a b', '1 0', EMPTY, (9, 8), 9, 17),
+    ('64 clauses, the days passed over', 'a', ' / '.join(['1'] * 64), [1, 0, 0], (9, 8), 9, 18),
+    ('days reversed', 'a from to', '1 0 9', [2, 0, 0], (9, 8), 9, 22),
+    ('days reversed by far', 'a from to', '1 0 9', [2, 0, 0], (LAST_DAY, 0), 0, 22),
+    ('days reversed on the day behind', 'a from to', '1 0 9', [2, 0, 0], (11, 10), 10, 22),
+    ('days reversed, no clause', 'a from to', '', [2, 0, 0], (1, 0), 0, 22),
+    ('days reversed, 63 clauses', 'a from to', ' / '.join(['1 0 9'] * 63), [1, 0, 0], (9, 0), 9, 22),
+    ('days reversed of an empty clause', 'a from to', '1 0 9', EMPTY, (9, 8), 9, 17),
+    ('days reversed of one outside', 'a from to', '1 0 9', [4, 0, 0], (9, 8), 9, 17),
+    ('days reversed beside 64 clauses', 'a from to', ' / '.join(['1 0 9'] * 64), [1, 0, 0], (9, 8), 9, 18),
+    ('an empty clause, days in order', 'a from to', '1 0 9', EMPTY, (8, 9), 9, 17),
+    ('outside the name before from, to', 'a from to', '1 0 9', [0, 0, 16], (8, 9), 9, 17),
+    ('64 clauses that are not of the day', 'a from to', ' / '.join(['1 0 9'] * 64), [1, 0, 0], (0, 9), 10, 18),
 ]
+
+
+def to_hold(rng, n, clauses, spans):
+    """A clause to hold, two days and a day to weigh on: of an undated book a clause that stands or another, of a dated one a clause that stands, with its days or others, or another."""
+    kind = rng.random()
+    if kind < (0.25 if spans is None else 0.5):
+        values = rng.choice(clauses)
+    else:
+        values = clause(n, some_of(rng, n, 0, 2), some_of(rng, n, 0, 2), some_of(rng, n, 0, 1))
+    if spans is None:
+        return values, (0, 0), 0
+    span = spans[clauses.index(values)] if kind < 0.25 else spans_for(rng, 1)[0]
+    return values, span, rng.choice([0, LAST_DAY, *span, *span, *rng.choice(spans)])
+
+
+def held_books(rng, make, is_dated):
+    """Random books with a clause that is taken."""
+    while True:
+        n, clauses = make(rng)
+        clauses = [c for c in clauses if any(c)]
+        if not clauses:
+            continue
+        spans = spans_for(rng, len(clauses)) if is_dated else None
+        values, span, day = to_hold(rng, n, clauses, spans)
+        made = held(names_for(rng, n), clauses, spans, values, span, day) if any(values) else None
+        if made is not None:
+            yield made
 
 
 def holdings():
     for label, names, clauses, words, numbers in HELD:
         yield label, text_of(names.split(), rows(clauses)), [int(x) for x in (words + ' ' + numbers).split()]
-    for label, names, clauses, words, refusal in NOT_HELD:
-        yield (label, *not_held(names.split(), rows(clauses), words, refusal))
-    yield ('the last place', *held(['a'], rows(' / '.join(['1'] * 63)), [2]))
+    for label, names, clauses, *rest in NOT_HELD:
+        yield (label, *not_held(names.split(), rows(clauses), *rest))
+    yield ('the last place', *held(['a'], rows(' / '.join(['1'] * 63)), None, [2], (0, 0), 0))
+    yield ('the last place, dated', *held(['a'], rows(' / '.join(['1'] * 63)), [(k, k + 1) for k in range(63)], [2], (20, 21), 20))
     for label, make in (('dense', dense), ('disjunction', disjunctions), ('loop', loops), ('constraint', constraints), ('default', defaults)):
         rng = random.Random(f'{SEED} holdings {label}')
-        k = 0
-        while k < HELD_BOOKS:
-            n, clauses = make(rng)
-            clauses = [c for c in clauses if any(c)]
-            if not clauses:
-                continue
-            last = rng.choice(clauses) if rng.random() < 0.25 else clause(n, some_of(rng, n, 0, 2), some_of(rng, n, 0, 2), some_of(rng, n, 0, 1))
-            made = held(names_for(rng, n), clauses, last) if any(last) else None
-            if made is not None:
-                k += 1
-                yield (f'{label} {k}', *made)
+        for k, made in enumerate(itertools.islice(held_books(rng, make, False), HELD_BOOKS), 1):
+            yield (f'{label} {k}', *made)
+        for k, made in enumerate(itertools.islice(held_books(rng, make, True), HELD_DATED_BOOKS), 1):
+            yield (f'{label} {k}, dated', *made)
 
 
 # ---- texts that are refused, and texts at the edges that are taken
 
-TWELVE = ' '.join('abcdefghijkl')
 ROW = ' '.join(['1'] + ['0'] * 11)
 
 
@@ -639,25 +869,140 @@ SINGLE = [
 ]
 
 
-def faulty(faults):
-    """A text with each of the faults 1 to 8 that is asked for, and with none that has a lower number than all of these."""
+RENTED = book('paid due from to', '1 0 0 30', '4 1 31 60', '16 2 0 0')
+LONGEST = book(' '.join('abcdefg' + x for x in 'abcdefghijkl') + ' from to', *[' '.join(['63'] * 12 + ['65535'] * 2)] * 64)
+
+DATED_SINGLE = [
+    (1, book('a from to', *['1 0 65535'] * 63 + ['1 0 65535' + ' 0' * 1722 + ' 00'])),
+    (1, LONGEST + '1' * 909),
+    (2, 'a from to'),
+    (2, book('a from to', '1 0 9') + '1 0 9'),
+    (3, book('a from to', '1 0 -9')),
+    (3, book('a From to', '1 0 9')),
+    (3, book('a from to', '1 0 9.')),
+    (4, book('a from to', *['1 0 9'] * 65)),
+    (4, LONGEST + '1 9 8\n'),
+    (5, book(TWELVE + ' m from to', ROW + ' 0 0 9')),
+    (5, book(TWELVE + ' from', ROW + ' 0')),
+    (5, book(TWELVE + ' to from', ROW + ' 0 9')),
+    (5, book(' from to', '1 0')),
+    (5, book(' from to', '1 0 9')),
+    (5, book('a  from to', '1 0 9')),
+    (5, book('a from  to', '1 0 9')),
+    (5, book('a from to ', '1 0 9')),
+    (5, book(' a from to', '1 0 9')),
+    (5, book('9 from to', '1 0 9')),
+    (5, book('abcdefghi from to', '1 0 9')),
+    (6, book('a a from to', '1 0 0 9')),
+    (6, book('from from from to', '1 0 0 9')),
+    (6, book('to b to from to', '1 0 0 0 9')),
+    (6, book('from to to', '1 0 0')),
+    (6, book('from to from', '1 0 0')),
+    (6, book('a b c d e f g h i j k a from to', ROW + ' 0 9')),
+    (7, book('a from to', '1 0 65536')),
+    (7, book('a from to', '1 65536 65536')),
+    (7, book('a from to', '1 65536 0')),
+    (7, book('a from to', '1 0 100000')),
+    (7, book('a from to', '1 0 18446744073709551616')),
+    (7, book('a from to', '1 00 9')),
+    (7, book('a from to', '1 0 09')),
+    (7, book('a from to', '1 0 065535')),
+    (7, book('a from to', '01 0 9')),
+    (7, book('a from to', '64 0 9')),
+    (7, book('a from to', '1 0')),
+    (7, book('a from to', '1')),
+    (7, book('a from to', '')),
+    (7, book('a from to', '1 0 9 9')),
+    (7, book('a from to', '1 0 9 ')),
+    (7, book('a from to', '1  0 9')),
+    (7, book('a from to', '1 0 b')),
+    (7, book('a from to', '1 from to')),
+    (7, book('a from to', '1 0 9', '1 0 9', '1')),
+    (7, book('a from to', *(['1 0 9'] * 63 + ['1 0 65536']))),
+    (7, book('a b from to', '1 0 9')),
+    (7, book('a b from to', '1 0 0 9 0')),
+    (7, book('from to', '1 0 0 9')),
+    (7, book('from to', '1 64')),
+    (7, book('a to from', '1 0 0 0 9')),
+    (7, book('a to from', '1 0 64')),
+    (7, book('a from too', '1 0 64')),
+    (7, book('a b from to from to', '1 0 0 9')),
+    (7, book('a from to', *['1 0 65535'] * 63 + ['1 0 65535' + ' 0' * 1723])),
+    (7, book('a from to', '1 9 8', '1 0 65536')),
+    (7, book('a from to', '1 0 65536', '1 9 8')),
+    (7, book('a from to', '0 9 8', '64 9 8')),
+    (8, book('a from to', '0 0 9')),
+    (8, book('a from to', '0 0 0')),
+    (8, book('a from to', '0 9 8')),
+    (8, book('a from to', '1 9 8', '0 0 9')),
+    (8, book('a from to', '0 0 9', '1 9 8')),
+    (8, book('a b from to', '1 0 0 9', '0 0 3 9')),
+    (8, book(TWELVE + ' from to', *([ROW + ' 0 9'] * 63 + [' '.join(['0'] * 12) + ' 1 1']))),
+    (22, book('a from to', '1 9 8')),
+    (22, book('a from to', '1 65535 65534')),
+    (22, book('a from to', '1 65535 0')),
+    (22, book('a from to', '1 1 0')),
+    (22, book('a from to', '1 100 99')),
+    (22, book('a from to', '1 10 9')),
+    (22, book('a from to', '1 0 9', '2 9 8')),
+    (22, book('a from to', '2 9 8', '1 0 9')),
+    (22, book('a from to', *(['1 9 9'] * 63 + ['1 9 8']))),
+    (22, book('from to from to', '0 1 9 8')),
+    (22, book('a from to from to', '1 0 9 9 8')),
+    (22, book(TWELVE + ' from to', ROW + ' 9 8')),
+    (0, book('a from to')),
+    (0, book('a from to', '1 0 0')),
+    (0, book('a from to', '1 65535 65535')),
+    (0, book('a from to', '63 0 65535')),
+    (0, book('a from to', '1 9 9')),
+    (0, book('a from to', '1 9 10')),
+    (0, book('a from to', '1 0 64')),
+    (0, book('a from to', *['1 0 9'] * 64)),
+    (0, book('a b from to', '1 0 9 9')),
+    (0, book('from to', '1 63')),
+    (0, book('to from', '9 8')),
+    (0, book('from')),
+    (0, book('a to from', '1 9 8')),
+    (0, book('a from', '9 8')),
+    (0, book('a from too', '1 9 8')),
+    (0, book('a afrom to', '1 9 8')),
+    (0, book('a from to b', '1 0 9 8')),
+    (0, book('from to a', '1 9 8')),
+    (0, book('from from to', '1 0 9')),
+    (0, book('to from to', '1 0 9')),
+    (0, book('from to from to', '1 0 0 9')),
+    (0, book('a from to from to', '1 0 0 0 9')),
+    (0, book('a b c d e f g h i j from to', '1 0 0 0 0 0 0 0 0 0 0 9')),
+    (0, book('a b c d e f g h i j from to from to', ROW + ' 0 9')),
+    (0, book(TWELVE + ' from to', ROW + ' 0 9')),
+    (0, book(TWELVE + ' from to')),
+    (0, LONGEST),
+]
+
+
+
+def faulty(faults, days=()):
+    """A text with each of the faults 1 to 8 and 22 that is asked for, and with none that has a lower number than all of these; dated where the names and each line get something behind them."""
+    behind_names, behind = days or ('', '')
     names = ['a', 'b', 'c']
     if 6 in faults:
         names[2] = 'a'
     if 5 in faults:
         names[1] = '9b'
-    lines = ['1 0 0', '0 16 1']
+    lines = ['1 0 0' + behind, '0 16 1' + behind]
+    if 22 in faults:
+        lines.insert(1, '1 0 0 9 8')
     if 8 in faults:
-        lines.insert(0, '0 0 0')
+        lines.insert(0, '0 0 0' + behind)
     if 7 in faults:
-        lines.append('1 0 64')
+        lines.append('1 0 64' + behind)
     if 3 in faults:
-        lines.append('1 0 0!')
+        lines.append('1 0 0!' + behind)
     if 4 in faults:
-        lines += ['1 0 0'] * (66 - len(lines))
-    made = book(' '.join(names), *lines)
+        lines += ['1 0 0' + behind] * (66 - len(lines))
+    made = book(' '.join(names) + behind_names, *lines)
     if 1 in faults:
-        made += '1 0 0\n' * ((4097 - len(made)) // 6 + 1)
+        made += ('1 0 0' + behind + '\n') * ((4097 - len(made)) // (6 + len(behind)) + 1)
     if 2 in faults:
         made += 'x'
     return made
@@ -671,10 +1016,16 @@ def refusals():
         for faults in itertools.combinations(range(1, 9), size):
             k += 1
             yield f'several {k}', faulty(faults), min(faults)
+    for k, (number, made) in enumerate(DATED_SINGLE):
+        yield f'dated {k + 1}', made, number
+    dated = [faults for size in (2, 3, 9) for faults in itertools.combinations([1, 2, 3, 4, 5, 6, 7, 8, 22], size)]
+    for k, faults in enumerate(faults for faults in dated if len(faults) != 3 or (22 in faults and 1 not in faults)):
+        yield f'dated, several {k + 1}', faulty(faults, (' from to', ' 0 65535')), min(faults)
 
 
 # ---- tables forged by hand: 0 the names, 1 a byte of a name, 2 the clauses, 3 to 5 a head, a body, a not-part,
-# 6 to 8 a head, a body, a not-part that is held, 9 to 11 the same in a place that is not in use
+# 6 to 8 a head, a body, a not-part that is held, 9 to 11 the same in a place that is not in use,
+# 12 the two days of a clause that is held, 13 the same in a place that is not in use, 14 a first day, 15 a last day, 16 whether the book was dated
 
 LAST = 2 ** 32 - 1
 SOLD = book('fell due', '1 0', '2 0', '16 1')
@@ -735,6 +1086,62 @@ TABLES = [
     ('a body in a place not in use', SOLD, 10, 0, 1, 9),
     ('a not-part in a place not in use', SOLD, 11, 0, 1, 9),
     ('all bits in a place not in use', SOLD, 11, 0, LAST, 9),
+    ('days of a held clause that is undated', SOLD, 12, 0, 0, 0),
+    ('a first day of a held clause that is undated', SOLD, 12, 1, 0, 9),
+    ('a last day of a held clause that is undated', SOLD, 12, 0, 1, 9),
+    ('both days of a held clause that is undated', SOLD, 12, LAST_DAY, LAST_DAY, 9),
+    ('a first day in a place not in use, undated', SOLD, 13, 1, 0, 9),
+    ('a last day in a place not in use, undated', SOLD, 13, 0, 1, 9),
+    ('a held clause for one day', RENTED, 12, 7, 7, 0),
+    ('a held clause for all days', RENTED, 12, 0, LAST_DAY, 0),
+    ('a held clause for the last day', RENTED, 12, LAST_DAY, LAST_DAY, 0),
+    ('a held clause for a day less than one', RENTED, 12, 8, 7, 9),
+    ('a held clause from the last day to the first', RENTED, 12, LAST_DAY, 0, 9),
+    ('no day in a place not in use', RENTED, 13, 0, 0, 0),
+    ('a first day in a place not in use', RENTED, 13, 7, 0, 9),
+    ('a last day in a place not in use', RENTED, 13, 0, 7, 9),
+    ('days in order in a place not in use', RENTED, 13, 7, 8, 9),
+    ('the last place held, with days', book(TWELVE + ' from to', *[ROW + ' 0 9'] * 63), 12, 3, 4, 0),
+    ('a clause with days held beside 64', book(TWELVE + ' from to', *[ROW + ' 0 9'] * 64), 12, 3, 4, 9),
+    ('a first day where none was read', SOLD, 14, 0, 1, 9),
+    ('a last day where none was read', SOLD, 15, 2, 1, 9),
+    ('the highest last day where none was read', SOLD, 15, 0, LAST_DAY, 9),
+    ('a first day behind the clauses, undated', SOLD, 14, 3, 1, 9),
+    ('a last day behind the clauses, undated', SOLD, 15, 63, 1, 9),
+    ('no day where none was read', SOLD, 15, 0, 0, 0),
+    ('a first day after its last', RENTED, 14, 0, 31, 9),
+    ('a first day at its last', RENTED, 14, 0, 30, 0),
+    ('a last day before its first', RENTED, 15, 1, 30, 9),
+    ('a last day at its first', RENTED, 15, 1, 31, 0),
+    ('the last day of all', RENTED, 15, 2, LAST_DAY, 0),
+    ('a first day after the last of all but one', RENTED, 14, 2, LAST_DAY, 9),
+    ('a first day behind the clauses', RENTED, 14, 3, 1, 9),
+    ('a last day behind the clauses', RENTED, 15, 3, 1, 9),
+    ('a last day in the last row', RENTED, 15, 63, LAST_DAY, 9),
+    ('a last day before its first in row 63', book('a from to', *['1 5 9'] * 64), 15, 63, 4, 9),
+    ('a first day of all 64 rows in use', book('a from to', *['1 5 9'] * 64), 14, 63, 9, 0),
+    ('a head of an empty clause with days', RENTED, 3, 0, 0, 9),
+    ('a clause too few, dated', RENTED, 2, 0, 2, 9),
+    ('a clause too few, with no day', book('a from to', '1 0 0', '2 0 0'), 2, 0, 1, 9),
+    ('a name too few, dated', book('a b from to', '1 0 0 0'), 0, 0, 1, 9),
+    ('undated now, with days', RENTED, 16, 0, 0, 9),
+    ('undated now, with no days', book('a b from to', '1 0 0 0', '4 1 0 0'), 16, 0, 0, 0),
+    ('undated now, with a last day', book('a b from to', '1 0 0 0', '4 1 0 1'), 16, 0, 0, 9),
+    ('undated now, with no clause', book('a b c from to'), 16, 0, 0, 0),
+    ('undated now, three names that end in from, to', book('a from to from to', '1 0 0 0 0'), 16, 0, 0, 9),
+    ('undated now, twelve names that end in from, to', book('a b c d e f g h i j from to from to'), 16, 0, 0, 9),
+    ('undated now, the two names from, to', book('from to from to', '1 0 0 0'), 16, 0, 0, 0),
+    ('undated now, three names, from and to before the last', book('from to a from to', '1 0 0 0 0'), 16, 0, 0, 0),
+    ('undated now, three names that end in to, from', book('a to from from to', '1 0 0 0 0'), 16, 0, 0, 0),
+    ('dated, three names that end in from, to', book('a from to from to', '1 0 0 0 9'), 16, 0, 1, 0),
+    ('dated, the two names from, to', book('from to from to', '1 0 0 9'), 16, 0, 1, 0),
+    ('dated now, the two names from, to', book('from to', '1 0'), 16, 0, 1, 0),
+    ('dated now, with no days', SOLD, 16, 0, 1, 0),
+    ('the name tt becomes to', book('a from tt', '1 0 0'), 1, 17, ord('o'), 9),
+    ('the name prom becomes from', book('a prom to', '1 0 0'), 1, 8, ord('f'), 9),
+    ('the name tt becomes to, of two', book('from tt', '1 0'), 1, 9, ord('o'), 0),
+    ('the name tt becomes to, dated', book('a from tt from to', '1 0 0 0 0'), 1, 17, ord('o'), 0),
+    ('the name from becomes froma', book('a from tt', '1 0 0'), 1, 12, ord('a'), 0),
 ]
 
 
@@ -743,24 +1150,30 @@ TABLES = [
 def vocabulary():
     """Clauses whose body cannot hold at stage 0 keep the stages small, so that W alone decides."""
     for n in (1, 2, 5, 11, 12):
-        room = 64 - 4 * n
+        names, room = TWELVE.split()[:n], 64 - 4 * n
         for count in (room - 1, room, room + 1):
             if count > 64:
                 continue
             lines = [clause(n, [0], [0], [1]) for _ in range(count)]
-            yield f'single heads, {n} names, W {4 * n + count}', n, lines, 0 if count <= room else 11
+            yield f'single heads, {n} names, W {4 * n + count}', names, lines, 0 if count <= room else 11
         wide = [clause(n, [0, 1], [0], [1]) for _ in range(room // 2)]
-        yield f'double heads, {n} names, W 64', n, wide, 0
+        yield f'double heads, {n} names, W 64', names, wide, 0
         if len(wide) < 64:
-            yield f'double heads, {n} names, W 66', n, wide + [clause(n, [0, 1], [0], [1])], 11
-    yield 'empty heads count nothing', 12, [clause(12, [], [0], [1]) for _ in range(64)], 0
-    yield 'clauses without a not-part count nothing', 12, [clause(12, [0, 1, 2], [0], []) for _ in range(64)], 0
-    yield 'seventeen equal lines', 12, [clause(12, [0], [], [0]) for _ in range(17)], 11
+            yield f'double heads, {n} names, W 66', names, wide + [clause(n, [0, 1], [0], [1])], 11
+    yield 'empty heads count nothing', names, [clause(12, [], [0], [1]) for _ in range(64)], 0
+    yield 'clauses without a not-part count nothing', names, [clause(12, [0, 1, 2], [0], []) for _ in range(64)], 0
+    yield 'seventeen equal lines', names, [clause(12, [0], [], [0]) for _ in range(17)], 11
+    single = clause(12, [0], [0], [1])
+    for number, lasts in ((0, [0] * 16), (11, [0] * 17), (0, list(range(16)))):
+        today, behind = [single + [0, last] for last in lasts], [single + [1, LAST_DAY]] * 40
+        yield f'dated, {len(today)} clauses of day 0, the last until {lasts[-1]}', names + ['from', 'to'], behind + today, number
 
 
 def rooms():
     yield '2.11', 'a b c d'.split(), rows('1 1 4 0 / 0 0 4 2 / 0 0 1 0 / 4 4 0 0'), 3
     yield 'no clause', ['a'], [], 1
+    yield 'dated, three of day 0', 'a b from to'.split(), rows('3 0 0 9 / 0 3 1 9 / 0 1 0 0 / 1 2 0 65535 / 0 3 9 9'), 5
+    yield 'dated, none of day 0', 'a b from to'.split(), rows('3 0 1 9 / 0 3 1 65535'), 1
     for label, count, make in (('dense', 120, dense), ('disjunction', 60, disjunctions), ('default', 60, defaults)):
         rng = random.Random(f'{SEED} rooms {label}')
         k = 0
@@ -795,12 +1208,13 @@ def main():
     save(TRIALS, 'samples', [record(a, text_of(n, c), m) for a, n, c, m in written_out(SAMPLES)])
     save(TRIALS, 'paper', [record(a, text_of(n, c), m) for a, n, c, m in written_out(PAPER)])
     save(EDGES, 'refusals', [record(a, t, [r]) for a, t, r in refusals()])
-    save(EDGES, 'vocabulary', [record(a, text_of(list('abcdefghijkl')[:n], c), [r]) for a, n, c, r in vocabulary()])
+    save(EDGES, 'vocabulary', [record(a, text_of(n, c), [r]) for a, n, c, r in vocabulary()])
     save(EDGES, 'rooms', [record(a, text_of(n, c), [r]) for a, n, c, r in rooms()])
     save(TRIALS, 'solver', [record(a, text_of(n, c), m) for kind in KINDS for a, n, c, m in random_books(*kind)])
     save(TRIALS, 'summaries', [record(a, text_of(n, c), numbers) for a, n, c, numbers in summaries()])
     save(TRIALS, 'checks', [record(a, text_of(n, c), numbers) for a, n, c, numbers in checks()])
     save(TRIALS, 'nodes', [record(a, text_of(n, c), numbers) for a, n, c, numbers in nodes()])
+    save(TRIALS, 'days', [record(a, t, numbers) for a, t, numbers in days()])
     save(TRIALS, 'holdings', [record(a, t, numbers) for a, t, numbers in holdings()])
     save(EDGES, 'tables', [record(a, t, numbers) for a, t, *numbers in TABLES])
     with open(os.path.join(TRIALS, 'VERSION'), 'w') as out:

@@ -20,23 +20,23 @@ pub numbered-fits : (w : List ℕ) (v : ℕ) (xs : List ℕ) → v < 2 ^ 32 → 
 numbered-fits w v xs h s r = omega (arith, numbered-most w v (omega arith))
 
 -- ---- the check
-module _ (p : Program) (w : ℕ) (c : Checked) (s : Checks p w c) (xs : List ℕ) (r : ℕ) (ys : List ℕ) where
-  checked-wrote : (d : Checked) → c ≡ d → Wrote (checkedLine d) xs r ys → Wrote (checkText w p) xs r ys
+module _ (p : Program) (t w : ℕ) (c : Checked) (s : Checks p t w c) (xs : List ℕ) (r : ℕ) (ys : List ℕ) where
+  checked-wrote : (d : Checked) → c ≡ d → Wrote (checkedLine d) xs r ys → Wrote (checkText t w p) xs r ys
   unfolding checkText
   checked-wrote d e h = rw (← s .answer, e) h
 
-  pub check-refused : (n : ℕ) → c ≡ found.Refused n → Wrote (refusedLine n) xs r ys → Wrote (checkText w p) xs r ys
+  pub check-refused : (n : ℕ) → c ≡ found.Refused n → Wrote (refusedLine n) xs r ys → Wrote (checkText t w p) xs r ys
   unfolding checkedLine
   check-refused n e h = checked-wrote (found.Refused n) e h
 
-  pub check-violated : (k : ℕ) → c ≡ found.Violated k → Wrote (numbered violatedWord k) xs r ys → Wrote (checkText w p) xs r ys
+  pub check-violated : (k : ℕ) → c ≡ found.Violated k → Wrote (numbered violatedWord k) xs r ys → Wrote (checkText t w p) xs r ys
   unfolding checkedLine
   check-violated k e h = checked-wrote (found.Violated k) e h
 
-  pub check-smaller : (j : ℕ) → c ≡ found.Smaller j → Wrote (numbered smallerWord j) xs r ys → Wrote (checkText w p) xs r ys
+  pub check-smaller : (j : ℕ) → c ≡ found.Smaller j → Wrote (numbered smallerWord j) xs r ys → Wrote (checkText t w p) xs r ys
   unfolding checkedLine
   check-smaller j e h = checked-wrote (found.Smaller j) e h
 
-  pub check-stable : c ≡ found.Stable → Wrote (stableWord ++ (10 ∷ [])) xs r ys → Wrote (checkText w p) xs r ys
+  pub check-stable : c ≡ found.Stable → Wrote (stableWord ++ (10 ∷ [])) xs r ys → Wrote (checkText t w p) xs r ys
   unfolding checkedLine lineOf join led
   check-stable e h = checked-wrote found.Stable e h

@@ -1,4 +1,4 @@
--- What `check` says of a table, as a definition of the table and of the word. Assumes nothing.
+-- What `check` says of a table, as a definition of the table, of the day and of the word. Assumes nothing.
 use mathlib.Core.List.{List, [], _∷_}
 use Prim.Native.Nat.{ℕ}
 use Rattle.program.specs.declared.Program.{Program}
@@ -25,5 +25,5 @@ checkedLine (Violated k) = numbered violatedWord k
 checkedLine (Smaller j) = numbered smallerWord j
 checkedLine Stable = lineOf (stableWord ∷ [])
 
-unfoldable pub checkText : ℕ → Program → List ℕ
-checkText w p = checkedLine (checked.answerOf p w)
+unfoldable pub checkText : ℕ → ℕ → Program → List ℕ
+checkText d w p = checkedLine (checked.answerOf p d w)

@@ -16,12 +16,12 @@ fn put_found(word: &[u8], v: u32, out: &mut [u8]) -> usize
     wording::put_numbered_line(out, word, v as u64)
 }
 
-// What the check of the word found.
-pub fn put_check(p: Program, word: u32, out: &mut [u8]) -> usize
+// What the check of the word found on the day.
+pub fn put_check(p: Program, day: u16, word: u32, out: &mut [u8]) -> usize
     requires { ⌜ Ready p (now out) ⌝ }
-    ensures { λ r. ⌜ Wrote (checkText word p) (now (out .entry)) r (now (out .exit)) ⌝ }
+    ensures { λ r. ⌜ Wrote (checkText day word p) (now (out .entry)) r (now (out .exit)) ⌝ }
 {
-    let answer = stable::check(p, word);
+    let answer = stable::check(p, day, word);
     match answer {
         Checked::Refused(number) => printing::put_refused(number, out),
         Checked::Violated(k) => put_found(b"violated", k, out),

@@ -3,12 +3,12 @@ use mathlib.Core.Path.{_≡_, refl, ap, _∙_}
 use mathlib.Core.List.{List, _++_}
 use Prim.Native.Nat.{ℕ}
 use Rattle.program.specs.Clauses.{clauseOf}
-use Rattle.program.specs.Values.{clauseValues}
 use Rattle.text.specs.Lines.{valuesLine}
+use Rattle.text.specs.Render.{rowNumbers}
 use Rattle.text.specs.Refusals.{refusal}
 use Rattle.text.specs.Reading.{readOf, IsAccepted}
 use Rattle.text.proofs.RoundTrip.{refused, written-back, read-sized}
-use Rattle.hold.specs.Holding.{holdRefusal}
+use Rattle.hold.specs.Holding.{heldAs, holdRefusal}
 use Rattle.holding.proofs.Texts.{keep-last-line}
 use Rattle.wording.specs.Printed.{refusedLine}
 use Rattle.printing.specs.Texts.{unlessRefused, allowance}
@@ -17,26 +17,27 @@ use Rattle.commands.specs.declared.Command.the-variants.{Search, Write, 
 use Rattle.commands.specs.Printing.{printed}
 use Rattle.commands.specs.Commands.{textOf, output, reportOf}
 
--- A search with the report's numbers prints the report.
-pub search-is-report : (ns bs b : List ℕ) → output (Search allowance 4096) ns bs b ≡ reportOf b
+-- A search on day 0 with the report's numbers prints the report.
+pub search-is-report : (ns bs b : List ℕ) → output 0 (Search allowance 4096) ns bs b ≡ reportOf b
 unfolding output textOf reportOf
 search-is-report ns bs b = refl
 
 -- A book that is taken is written back byte for byte.
-pub write-is-book : (ns bs b : List ℕ) → IsAccepted b → output Write ns bs b ≡ b
+pub write-is-book : (d : ℕ) (ns bs b : List ℕ) → IsAccepted b → output d Write ns bs b ≡ b
 unfolding output textOf printed unlessRefused
-write-is-book ns bs b a = rw a (written-back b a)
+write-is-book d ns bs b a = rw a (written-back b a)
 
 -- Where hold takes the clause, `keep` prints the book byte for byte, and the clause as its last line.
-pub keep-is-book : (h f n : ℕ) (ns bs b : List ℕ) → IsAccepted b → holdRefusal (readOf b .program) (clauseOf h f n) ≡ 0
-    → output (Keep h f n) ns bs b ≡ b ++ valuesLine (clauseValues (readOf b .program .«atom_count») (clauseOf h f n))
+pub keep-is-book : (d h b n f l : ℕ) (ns bs t : List ℕ) → IsAccepted t → holdRefusal (readOf t .program) (clauseOf h b n) f l ≡ 0
+    → output d (Keep h b n f l) ns bs t
+    ≡ t ++ valuesLine (rowNumbers (readOf t .program .dated) (readOf t .program .«atom_count») (heldAs (readOf t .program) (clauseOf h b n) f l))
 unfolding output textOf printed unlessRefused
-keep-is-book h f n ns bs b a z =
-    let p = readOf b .program in
-    let c = clauseOf h f n in
-    rw a (keep-last-line p (read-sized b a) c z ∙ ap (λ (t : List ℕ). t ++ valuesLine (clauseValues (p .«atom_count») c)) (written-back b a))
+keep-is-book d h b n f l ns bs t a z =
+    let p = readOf t .program in
+    let c = clauseOf h b n in
+    rw a (keep-last-line p (read-sized t a) c f l z ∙ ap (λ (x : List ℕ). x ++ valuesLine (rowNumbers (p .dated) (p .«atom_count») (heldAs p c f l))) (written-back t a))
 
 -- Of a refused book every word prints the one line of its refusal.
-pub prints-refusal : (k : Command) (ns bs b : List ℕ) → (refusal b ≡ 0 → ⊥) → output k ns bs b ≡ refusedLine (refusal b)
+pub prints-refusal : (d : ℕ) (k : Command) (ns bs b : List ℕ) → (refusal b ≡ 0 → ⊥) → output d k ns bs b ≡ refusedLine (refusal b)
 unfolding output printed unlessRefused
-prints-refusal k ns bs b n = rw (refused b n)
+prints-refusal d k ns bs b n = rw (refused b n)

@@ -47,47 +47,47 @@ module _ (b : List ℕ) (d : Read) (e : d ≡ readOf b) (xs : List ℕ) (h : mos
   pub read-ready : d .verdict ≡ verdict.Accepted → Ready (d .program) xs
   read-ready t = record { accepted = rw e (read-valid b (ap (λ (x : Read). x .verdict) (sym e) ∙ t)); room = h }
 
-  module _ (k : Command) (ns bs : List ℕ) (r : ℕ) (ys : List ℕ) where
-    pub run-read : d .verdict ≡ verdict.Accepted → Wrote (textOf k ns bs (d .program)) xs r ys → Prints (output k ns bs b) xs r ys
+  module _ (t : ℕ) (k : Command) (ns bs : List ℕ) (r : ℕ) (ys : List ℕ) where
+    pub run-read : d .verdict ≡ verdict.Accepted → Wrote (textOf t k ns bs (d .program)) xs r ys → Prints (output t k ns bs b) xs r ys
     unfolding output printed unlessRefused
-    run-read t w = prints (output k ns bs b) xs r ys h (rw (← e, t) w)
+    run-read a w = prints (output t k ns bs b) xs r ys h (rw (← e, a) w)
 
-    pub run-refused : (n : ℕ) → d .verdict ≡ verdict.Refused n → Wrote (refusedLine n) xs r ys → Prints (output k ns bs b) xs r ys
+    pub run-refused : (n : ℕ) → d .verdict ≡ verdict.Refused n → Wrote (refusedLine n) xs r ys → Prints (output t k ns bs b) xs r ys
     unfolding output printed unlessRefused
-    run-refused n t w = prints (output k ns bs b) xs r ys h (rw (← e, t) w)
+    run-refused n a w = prints (output t k ns bs b) xs r ys h (rw (← e, a) w)
 
 -- ---- each command has its text
-module _ (k : Command) (ns bs : List ℕ) (p : Program) (xs : List ℕ) (r : ℕ) (ys : List ℕ) where
-  pub is-check : (w : ℕ) → k ≡ command.Check w → Wrote (checkText w p) xs r ys → Wrote (textOf k ns bs p) xs r ys
+module _ (t : ℕ) (k : Command) (ns bs : List ℕ) (p : Program) (xs : List ℕ) (r : ℕ) (ys : List ℕ) where
+  pub is-check : (w : ℕ) → k ≡ command.Check w → Wrote (checkText t w p) xs r ys → Wrote (textOf t k ns bs p) xs r ys
   unfolding textOf
   is-check w e h = rw e h
 
-  pub is-search : (A places : ℕ) → k ≡ command.Search A places → Wrote (searchText A (lentList places) p) xs r ys → Wrote (textOf k ns bs p) xs r ys
+  pub is-search : (A places : ℕ) → k ≡ command.Search A places → Wrote (searchText t A (lentList places) p) xs r ys → Wrote (textOf t k ns bs p) xs r ys
   unfolding textOf
   is-search A places e h = rw e h
 
   pub is-fixpoint : (places capacity : ℕ) → k ≡ command.Fixpoint places capacity
-      → Wrote (fixpointText (lentList places) (workSlice capacity) (workSlice capacity) p) xs r ys → Wrote (textOf k ns bs p) xs r ys
+      → Wrote (fixpointText t (lentList places) (workSlice capacity) (workSlice capacity) p) xs r ys → Wrote (textOf t k ns bs p) xs r ys
   unfolding textOf
   is-fixpoint places capacity e h = rw e h
 
-  pub is-summary : k ≡ command.Summary → Wrote (summaryText p) xs r ys → Wrote (textOf k ns bs p) xs r ys
+  pub is-summary : k ≡ command.Summary → Wrote (summaryText t p) xs r ys → Wrote (textOf t k ns bs p) xs r ys
   unfolding textOf
   is-summary e h = rw e h
 
-  pub is-write : k ≡ command.Write → Wrote (render p) xs r ys → Wrote (textOf k ns bs p) xs r ys
+  pub is-write : k ≡ command.Write → Wrote (render p) xs r ys → Wrote (textOf t k ns bs p) xs r ys
   unfolding textOf
   is-write e h = rw e h
 
-  pub is-hold : (d b n : ℕ) → k ≡ command.Hold d b n → Wrote (holdText (clauseOf d b n) p) xs r ys → Wrote (textOf k ns bs p) xs r ys
+  pub is-hold : (d b n f l : ℕ) → k ≡ command.Hold d b n f l → Wrote (holdText (clauseOf d b n) f l p) xs r ys → Wrote (textOf t k ns bs p) xs r ys
   unfolding textOf
-  is-hold d b n e h = rw e h
+  is-hold d b n f l e h = rw e h
 
-  pub is-keep : (d b n : ℕ) → k ≡ command.Keep d b n → Wrote (keepText (clauseOf d b n) p) xs r ys → Wrote (textOf k ns bs p) xs r ys
+  pub is-keep : (d b n f l : ℕ) → k ≡ command.Keep d b n f l → Wrote (keepText (clauseOf d b n) f l p) xs r ys → Wrote (textOf t k ns bs p) xs r ys
   unfolding textOf
-  is-keep d b n e h = rw e h
+  is-keep d b n f l e h = rw e h
 
 -- ---- the report
-pub report-prints : (b xs : List ℕ) (r : ℕ) (ys : List ℕ) → Prints (output (command.Search allowance 4096) [] [] b) xs r ys → Prints (reportOf b) xs r ys
+pub report-prints : (b xs : List ℕ) (r : ℕ) (ys : List ℕ) → Prints (output 0 (command.Search allowance 4096) [] [] b) xs r ys → Prints (reportOf b) xs r ys
 unfolding output textOf reportOf
 report-prints b xs r ys h = h

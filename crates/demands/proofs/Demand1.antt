@@ -12,11 +12,13 @@ use Rattle.sets.specs.Lists.{Each}
 use Rattle.sets.proofs.Tests.{dec, same?}
 use Rattle.sets.proofs.Lists.{each-++}
 use Rattle.lists.specs.Bytes.{oneIf}
+use Rattle.program.specs.declared.HeldClause.{HeldClause}
 use Rattle.program.specs.declared.Program.{Program}
-use Rattle.program.specs.Clauses.{Clause, rows, clauses}
+use Rattle.program.specs.Clauses.{Clause, Row, rows}
+use Rattle.program.specs.Days.{ofDay, clauses}
 use Rattle.program.specs.Held.{heldClause, released}
 use Rattle.program.specs.Valid.{heldValid, valid, Sized}
-use Rattle.program.proofs.Validity.{held-fits, held-nothing, held-used, held-unused, clause-exactly}
+use Rattle.program.proofs.Validity.{HeldParts, days-parts, days-fit, held-fits, held-nothing, held-used, held-unused, clause-exactly}
 use Rattle.program.specs.Refusals.{lowest, Applies, Lowest, ofOutcome}
 use Rattle.program.proofs.Lowest.{rises, none-lowest, lowest-is, one-lowest}
 use Rattle.program.specs.declared.Verdict.{Verdict}
@@ -122,27 +124,30 @@ unfolding zeroTable
 zero-table =
     let z : List ℕ = replicate 64 0 in
     let two = zeros-append z z (zeros 64) (zeros 64) in
-    let all = zeros-append (replicate 96 0) (z ++ (z ++ z)) (zeros 96) (zeros-append z (z ++ z) (zeros 64) two) in
-    zeros-append (replicate 6 0) (replicate 96 0 ++ (z ++ (z ++ z))) (zeros 6) all
+    let three = zeros-append z (z ++ z) (zeros 64) two in
+    let four = zeros-append z (z ++ (z ++ z)) (zeros 64) three in
+    let five = zeros-append z (z ++ (z ++ (z ++ z))) (zeros 64) four in
+    let all = zeros-append (replicate 96 0) (z ++ (z ++ (z ++ (z ++ z)))) (zeros 96) five in
+    zeros-append (replicate 9 0) (replicate 96 0 ++ (z ++ (z ++ (z ++ (z ++ z))))) (zeros 9) all
 
 -- ---- what is accepted is no refusal
-checked-accepts : (R P : List Clause) (w : ℕ) → ofChecked (verdict R P w) ≡ Accepted
+checked-accepts : (T : Row → Bool) (R : List Row) (P : List Clause) (w : ℕ) → ofChecked (verdict T R P w) ≡ Accepted
 unfolding verdict
-checked-accepts R P w = go (ltb (firstViolated R w) (length R)) (ltb (leastSmaller P w) w)
+checked-accepts T R P w = go (ltb (firstViolated T R w) (length R)) (ltb (leastSmaller P w) w)
   where
-    go : (y z : Bool) → ofChecked (cond y (Violated (firstViolated R w)) (cond z (Smaller (leastSmaller P w)) Stable)) ≡ Accepted
+    go : (y z : Bool) → ofChecked (cond y (Violated (firstViolated T R w)) (cond z (Smaller (leastSmaller P w)) Stable)) ≡ Accepted
     go true z = refl
     go false true = refl
     go false false = refl
 
-search-accepts : (p : Program) (A L : ℕ) → ofOutcome (runAnswer (leafOf p) (nodesOf p) A L .outcome) ≡ Accepted
+search-accepts : (p : Program) (d A L : ℕ) → ofOutcome (runAnswer (leafOf p d) (nodesOf p d) A L .outcome) ≡ Accepted
 unfolding runAnswer
-search-accepts p A L = go (overfull (leafOf p) (nodesOf p) L A) (ltb A (length (nodesOf p)))
+search-accepts p d A L = go (overfull (leafOf p d) (nodesOf p d) L A) (ltb A (length (nodesOf p d)))
   where
     found : ℕ
-    found = length (hits (leafOf p) (take A (nodesOf p)))
+    found = length (hits (leafOf p d) (take A (nodesOf p d)))
 
-    go : (x y : Bool) → ofOutcome ((cond x (answer Full L (fullAt (leafOf p) (nodesOf p) L)) (cond y (answer Spent found A) (answer Complete found (length (nodesOf p))))) .outcome) ≡ Accepted
+    go : (x y : Bool) → ofOutcome ((cond x (answer Full L (fullAt (leafOf p d) (nodesOf p d) L)) (cond y (answer Spent found A) (answer Complete found (length (nodesOf p d))))) .outcome) ≡ Accepted
     go true y = refl
     go false true = refl
     go false false = refl
@@ -156,32 +161,32 @@ fix-accepts n m = go (leb n m)
     go false = refl
 
 -- ---- each call, where its number is 0 and where not
-module _ (p : Program) (w : ℕ) where
-  check-zero : checking.refusal p w ≡ 0 → ofChecked (checking.answerOf p w) ≡ Accepted
+module _ (p : Program) (d w : ℕ) where
+  check-zero : checking.refusal p w ≡ 0 → ofChecked (checking.answerOf p d w) ≡ Accepted
   unfolding checking.answerOf
-  check-zero z = rw (eq-eqb (checking.refusal p w) 0 z) (checked-accepts (rows p) (clauses p) w)
+  check-zero z = rw (eq-eqb (checking.refusal p w) 0 z) (checked-accepts (ofDay p d) (rows p) (clauses p d) w)
 
-  check-other : (checking.refusal p w ≡ 0 → ⊥) → ofChecked (checking.answerOf p w) ≡ Refused (checking.refusal p w)
+  check-other : (checking.refusal p w ≡ 0 → ⊥) → ofChecked (checking.answerOf p d w) ≡ Refused (checking.refusal p w)
   unfolding checking.answerOf
-  check-other d = rw (ne-eqb (checking.refusal p w) 0 d)
+  check-other z = rw (ne-eqb (checking.refusal p w) 0 z)
 
-module _ (p : Program) (A : ℕ) (l : List ℕ) where
-  search-zero : searching.refusal p ≡ 0 → ofOutcome (searching.answerOf p A l .outcome) ≡ Accepted
+module _ (p : Program) (d A : ℕ) (l : List ℕ) where
+  search-zero : searching.refusal p ≡ 0 → ofOutcome (searching.answerOf p d A l .outcome) ≡ Accepted
   unfolding searching.answerOf
-  search-zero z = rw (eq-eqb (searching.refusal p) 0 z) (search-accepts p A (length l))
+  search-zero z = rw (eq-eqb (searching.refusal p) 0 z) (search-accepts p d A (length l))
 
-  search-other : (searching.refusal p ≡ 0 → ⊥) → (searching.answerOf p A l ≡ answer (outcome.Refused (searching.refusal p)) 0 0) × (searching.exitOf p A l ≡ l)
+  search-other : (searching.refusal p ≡ 0 → ⊥) → (searching.answerOf p d A l ≡ answer (outcome.Refused (searching.refusal p)) 0 0) × (searching.exitOf p d A l ≡ l)
   unfolding searching.answerOf searching.exitOf
-  search-other d = (rw (ne-eqb (searching.refusal p) 0 d), rw (ne-eqb (searching.refusal p) 0 d))
+  search-other z = (rw (ne-eqb (searching.refusal p) 0 z), rw (ne-eqb (searching.refusal p) 0 z))
 
-module _ (p : Program) (l w v : List ℕ) where
-  fix-zero : fixing.refusal p (roomOf w v) ≡ 0 → ofOutcome (fixing.answerOf p l w v .outcome) ≡ Accepted
+module _ (p : Program) (d : ℕ) (l w v : List ℕ) where
+  fix-zero : fixing.refusal p d (roomOf w v) ≡ 0 → ofOutcome (fixing.answerOf p d l w v .outcome) ≡ Accepted
   unfolding fixing.answerOf
-  fix-zero z = rw (eq-eqb (fixing.refusal p (roomOf w v)) 0 z) (fix-accepts (length (fixing.found p)) (length l))
+  fix-zero z = rw (eq-eqb (fixing.refusal p d (roomOf w v)) 0 z) (fix-accepts (length (fixing.found p d)) (length l))
 
-  fix-other : (fixing.refusal p (roomOf w v) ≡ 0 → ⊥) → (fixing.answerOf p l w v ≡ fixing.refused (fixing.refusal p (roomOf w v))) × (fixing.exitOf p l w v ≡ l)
+  fix-other : (fixing.refusal p d (roomOf w v) ≡ 0 → ⊥) → (fixing.answerOf p d l w v ≡ fixing.refused (fixing.refusal p d (roomOf w v))) × (fixing.exitOf p d l w v ≡ l)
   unfolding fixing.answerOf fixing.exitOf
-  fix-other d = (rw (ne-eqb (fixing.refusal p (roomOf w v)) 0 d), rw (ne-eqb (fixing.refusal p (roomOf w v)) 0 d))
+  fix-other z = (rw (ne-eqb (fixing.refusal p d (roomOf w v)) 0 z), rw (ne-eqb (fixing.refusal p d (roomOf w v)) 0 z))
 
 -- ---- hold, keep and release
 back-one : (p q : Program) → q ≡ p → Each (λ (t : Program × Program). t .1 ≡ t .0) ((p, q) ∷ [])
@@ -212,9 +217,9 @@ every-call (write p o r) e = answers (told (write p o r)) refl
     (λ d x m. absurd m)
     (λ d. zero-more _ [] (ap writtenLength (e .answer ∙ writings.refused p (o .entry) d .0)) (λ x m. absurd m))
     (λ x m. absurd m)
-every-call (check p w r) e = answers (told (check p w r)) refl
-    (λ z. ap ofChecked (e .answer) ∙ check-zero p w z)
-    (λ d. ap ofChecked (e .answer) ∙ check-other p w d)
+every-call (check p t w r) e = answers (told (check p t w r)) refl
+    (λ z. ap ofChecked (e .answer) ∙ check-zero p t w z)
+    (λ d. ap ofChecked (e .answer) ∙ check-other p t w d)
     (λ d x m. absurd m) (λ d x m. absurd m) (λ d x m. absurd m) (λ x m. absurd m)
 every-call (summarize p ws r) e = answers (told (summarize p ws r)) refl
     (λ z. ap (λ x. x .verdict) (e ∙ meaning.accepted p ws z))
@@ -222,42 +227,59 @@ every-call (summarize p ws r) e = answers (told (summarize p ws r)) refl
     (λ d x m. absurd m) (λ d x m. absurd m)
     (λ d. subst (λ x. Zeros (x .occurring ++ map oneIf (x .settled))) (sym (e ∙ meaning.refused p ws d)) (zeros-append (replicate 12 0) (map oneIf (replicate 12 false)) (zeros 12) (zeros 12)))
     (λ x m. absurd m)
-every-call (search p A l r) e = answers (told (search p A l r)) refl
-    (λ z. ap (λ x. ofOutcome (x .outcome)) (e .says) ∙ search-zero p A (l .entry) z)
-    (λ d. ap (λ x. ofOutcome (x .outcome)) (e .says ∙ search-other p A (l .entry) d .0))
-    (λ d. kept-one l (e .lists ∙ search-other p A (l .entry) d .1))
+every-call (search p t A l r) e = answers (told (search p t A l r)) refl
+    (λ z. ap (λ x. ofOutcome (x .outcome)) (e .says) ∙ search-zero p t A (l .entry) z)
+    (λ d. ap (λ x. ofOutcome (x .outcome)) (e .says ∙ search-other p t A (l .entry) d .0))
+    (λ d. kept-one l (e .lists ∙ search-other p t A (l .entry) d .1))
     (λ d x m. absurd m)
-    (λ d. let q = e .says ∙ search-other p A (l .entry) d .0 in
+    (λ d. let q = e .says ∙ search-other p t A (l .entry) d .0 in
     zero-more (r .written) (r .visited ∷ []) (ap (λ x. x .written) q) (zero-more (r .visited) [] (ap (λ x. x .visited) q) (λ x m. absurd m)))
     (λ x m. absurd m)
-every-call (fixpoint p l w v r) e = answers (told (fixpoint p l w v r)) refl
-    (λ z. ap (λ x. ofOutcome (x .outcome)) (e .says) ∙ fix-zero p (l .entry) (w .entry) (v .entry) z)
-    (λ d. ap (λ x. ofOutcome (x .outcome)) (e .says ∙ fix-other p (l .entry) (w .entry) (v .entry) d .0))
-    (λ d. kept-one l (e .lists ∙ fix-other p (l .entry) (w .entry) (v .entry) d .1))
+every-call (fixpoint p t l w v r) e = answers (told (fixpoint p t l w v r)) refl
+    (λ z. ap (λ x. ofOutcome (x .outcome)) (e .says) ∙ fix-zero p t (l .entry) (w .entry) (v .entry) z)
+    (λ d. ap (λ x. ofOutcome (x .outcome)) (e .says ∙ fix-other p t (l .entry) (w .entry) (v .entry) d .0))
+    (λ d. kept-one l (e .lists ∙ fix-other p t (l .entry) (w .entry) (v .entry) d .1))
     (λ d x m. absurd m)
-    (λ d. zero-more (r .written) [] (ap (λ x. x .written) (e .says ∙ fix-other p (l .entry) (w .entry) (v .entry) d .0)) (λ x m. absurd m))
+    (λ d. zero-more (r .written) [] (ap (λ x. x .written) (e .says ∙ fix-other p t (l .entry) (w .entry) (v .entry) d .0)) (λ x m. absurd m))
     (long-two w v (e .first-length) (e .second-length))
-every-call (hold p c r) e = answers (told (hold p c r)) refl
-    (λ z. ap (λ x. ofHold (x .status)) e ∙ holds.hold-accepted p c z)
-    (λ d. ap (λ x. ofHold (x .status)) (e ∙ holds.hold-refused p c d))
+every-call (hold p c f l r) e = answers (told (hold p c f l r)) refl
+    (λ z. ap (λ x. ofHold (x .status)) e ∙ holds.hold-accepted p c f l z)
+    (λ d. ap (λ x. ofHold (x .status)) (e ∙ holds.hold-refused p c f l d))
     (λ d x m. absurd m)
-    (λ d. back-one p (r .program) (ap (λ x. x .program) (e ∙ holds.hold-refused p c d)))
+    (λ d. back-one p (r .program) (ap (λ x. x .program) (e ∙ holds.hold-refused p c f l d)))
     (λ d x m. absurd m) (λ x m. absurd m)
 every-call (keep p r) e = cleared-call p (kept p) r e
 every-call (release p r) e = cleared-call p (released p) r e
 
 -- ---- what 9 asks
-may-hold : (p : Program) → (heldValid (p .held) (p .«clause_count») (p .«atom_count») ≡ true) ↔ MayHold p
+may-hold : (p : Program) → (heldValid (p .dated) (p .held) (p .«clause_count») (p .«atom_count») ≡ true) ↔ MayHold p
 may-hold p = (
   λ v. record {
-    clause = λ u. let f = held-fits (p .held) (p .«clause_count») (p .«atom_count») v u in let c = clause-exactly (p .«atom_count») (heldClause (p .held)) .0 (f .0) in (c .0, c .1, f .1);
-    nothing = λ u. held-nothing (p .held) (p .«clause_count») (p .«atom_count») v u;
+    clause = λ u. let f = fits v u in let c = clause-exactly n (heldClause h) .0 (f .clause) in (c .0, c .1, f .room);
+    days = λ u. let t = days-parts (p .dated) (h .first) (h .last) (fits v u .days) in (t .order, t .none);
+    nothing = λ u. held-nothing (p .dated) h count n v u;
   },
   λ m. ⊎-elim
-      (λ u. let c = m .clause u in held-used (p .held) (p .«clause_count») (p .«atom_count») u (clause-exactly (p .«atom_count») (heldClause (p .held)) .1 (c .0, c .1)) (c .2))
-      (λ u. held-unused (p .held) (p .«clause_count») (p .«atom_count») (m .nothing u))
-      (dec (p .held .«in_use»)),
+      (λ u. let c = m .clause u in let t = m .days u in held-used (p .dated) h count n u (record {
+        clause = clause-exactly n (heldClause h) .1 (c .0, c .1);
+        room = c .2;
+        days = days-fit (p .dated) (h .first) (h .last) (t .0) (λ e. t .1 e .1);
+      }))
+      (λ u. held-unused (p .dated) h count n (m .nothing u))
+      (dec (h .«in_use»)),
 )
+  where
+    h : HeldClause
+    h = p .held
+
+    count : ℕ
+    count = p .«clause_count»
+
+    n : ℕ
+    n = p .«atom_count»
+
+    fits : heldValid (p .dated) h count n ≡ true → h .«in_use» ≡ true → HeldParts (p .dated) h count n
+    fits v u = held-fits (p .dated) h count n v u
 
 nine-is : (p : Program) → Sized p → (valid p ≡ true) ↔ (Given (released p) × MayHold p)
 nine-is p s = (

@@ -2,28 +2,27 @@
 use mathlib.Core.Path.{_≡_, refl, sym, ap, _∙_, subst}
 use mathlib.Core.Logic.{_↔_, _⊎_, ⊎-elim}
 use mathlib.Core.Bool.{Bool, true, false, not}
-use mathlib.Core.List.{List, [], _∷_, map}
+use mathlib.Core.List.{List, [], _∷_}
 use Prim.Native.Nat.{ℕ, _≤_}
 use native.Mathlib.Omega.{arith}
 use lib.Dec.{eqb, ltb}
 use lib.ListN.{length, take, drop}
 use lib.Seq.{take-at}
 use borrow.Author.Tests.{le-ltb, eqb-true}
-use Rattle.sets.specs.Lists.{tabulate}
 use Rattle.sets.specs.Words.{bit}
 use Rattle.sets.proofs.Tests.{dec}
 use Rattle.lists.specs.Bytes.{over}
 use Rattle.program.specs.declared.Program.{Program}
-use Rattle.program.specs.Clauses.{rows, clauses}
+use Rattle.program.specs.Days.{clauses}
 use Rattle.program.specs.Held.{released}
-use Rattle.program.specs.Values.{isWord, sumFor}
+use Rattle.program.specs.Values.{isWord}
 use Rattle.program.specs.Valid.{valid, Sized}
 use Rattle.program.specs.Refusals.{lowest}
 use Rattle.program.specs.declared.Verdict.the-variants.{Accepted}
 use Rattle.text.specs.declared.Read.{Read}
 use Rattle.text.specs.declared.Written.{Written}
 use Rattle.text.specs.declared.Written.the-variants.{Length}
-use Rattle.text.specs.Lines.{names}
+use Rattle.text.specs.Lines.{firstItems, isDated}
 use Rattle.text.specs.Render.{render}
 use Rattle.text.specs.Reading.{readOf, IsAccepted}
 use Rattle.text.specs.Writing.{Writes, writeRefusal}
@@ -43,11 +42,12 @@ is-accepted : (b : List ℕ) (r : Read) → r ≡ readOf b → r .verdict ≡ Ac
 is-accepted b r e a = ap (λ (x : Read). x .verdict) (sym e) ∙ a
 
 exactly : (b : List ℕ) → IsAccepted b → ReadsExactly b (readOf b .program)
-unfolding names
+unfolding isDated firstItems
 exactly b a = record {
-  names-read = trip.names-read b a;
-  clauses-read = trip.clauses-read b a;
-  values-read = trip.values-read b a ∙ ap (λ (ns : List (List ℕ)). map (λ c. tabulate (sumFor c) (length ns)) (rows (readOf b .program))) (sym (trip.names-read b a));
+  dated-read = trip.dated-read b a;
+  names-read = trip.items-read b a;
+  rows-read = rw (trip.names-read b a) (trip.rows-read b a);
+  values-read = rw (trip.names-read b a, trip.dated-read b a) (trip.numbers-read b a);
 }
 
 -- ---- writing
@@ -92,7 +92,7 @@ again p s out a exit w n e =
     same-length q = cc
 
 -- ---- the check
-module _ (p : Program) (w : ℕ) where
+module _ (p : Program) (d w : ℕ) where
   -- what is not refused is a table that is accepted, and a word over its names
   parts : refusal p w ≡ 0 → (valid p ≡ true) × (isWord (p .«atom_count») w ≡ true)
   unfolding refusal lowest
@@ -107,11 +107,11 @@ module _ (p : Program) (w : ℕ) where
   unfolding refusal lowest
   whole v i = rw (v, i)
 
-  stable : (r : Checked) → Checks p w r → (r ≡ Stable) ↔ ((valid p ≡ true) × (isWord (p .«atom_count») w ≡ true) × PStable (rulesOf (clauses p)) (bit w))
+  stable : (r : Checked) → Checks p d w r → (r ≡ Stable) ↔ ((valid p ≡ true) × (isWord (p .«atom_count») w ≡ true) × PStable (rulesOf (clauses p d)) (bit w))
   unfolding Says
   stable r c = (
-    λ e. let s = subst (λ (x : Checked). Says p w x) e (c .says) in (parts (s .0) .0, parts (s .0) .1, s .1),
-    λ h. c .answer ∙ answers.stable-exactly p w (whole (h .0) (h .1)) .1 (h .2),
+    λ e. let s = subst (λ (x : Checked). Says p d w x) e (c .says) in (parts (s .0) .0, parts (s .0) .1, s .1),
+    λ h. c .answer ∙ answers.stable-exactly p d w (whole (h .0) (h .1)) .1 (h .2),
   )
 
 -- Demand 2.

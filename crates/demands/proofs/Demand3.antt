@@ -11,7 +11,7 @@ use Rattle.sets.specs.Lists.{Rising, Begins}
 use Rattle.sets.proofs.Tests.{dec}
 use Rattle.sets.proofs.Rising.{begins-both, begins-same, begins-rising}
 use Rattle.program.specs.declared.Program.{Program}
-use Rattle.program.specs.Clauses.{clauses}
+use Rattle.program.specs.Days.{clauses}
 use Rattle.program.specs.Valid.{valid}
 use Rattle.stable.proofs.Decides as decides
 use Rattle.program.specs.declared.Outcome.the-variants.{Complete, Refused}
@@ -23,117 +23,117 @@ use Rattle.demands.proofs.Outcomes.{refused-complete}
 use Rattle.demands.proofs.Searching as searching
 use Rattle.demands.proofs.Fixing as fixing
 
-every-model : (p : Program) → AllModels p
-every-model p = record { rising = decides.rising (p .«atom_count») (clauses p); exactly = decides.listed (p .«atom_count») (clauses p) }
+every-model : (p : Program) (d : ℕ) → AllModels p d
+every-model p d = record { rising = decides.rising (p .«atom_count») (clauses p d); exactly = decides.listed (p .«atom_count») (clauses p d) }
 
 -- the first of all models, as many as are counted
-begins : (p : Program) (r : Run) → listed p r ≡ take (written p r) (allModels p) → length (listed p r) ≡ written p r → Begins (listed p r) (allModels p)
+begins : (p : Program) (d : ℕ) (r : Run) → listed p d r ≡ take (written p d r) (allModels p d) → length (listed p d r) ≡ written p d r → Begins (listed p d r) (allModels p d)
 unfolding Begins
-begins p r e n = ap (λ (k : ℕ). take k (allModels p)) n ∙ sym e
+begins p d r e n = ap (λ (k : ℕ). take k (allModels p d)) n ∙ sym e
 
-rises : (p : Program) (r : Run) → listed p r ≡ take (written p r) (allModels p) → length (listed p r) ≡ written p r → Rising (listed p r)
-rises p r e n = begins-rising (listed p r) (allModels p) (begins p r e n) (every-model p .rising)
+rises : (p : Program) (d : ℕ) (r : Run) → listed p d r ≡ take (written p d r) (allModels p d) → length (listed p d r) ≡ written p d r → Rising (listed p d r)
+rises p d r e n = begins-rising (listed p d r) (allModels p d) (begins p d r e n) (every-model p d .rising)
 
 -- ---- a run by search
-module _ (p : Program) (A : ℕ) (l : List ℕ) where
-  search-nine : valid p ≡ false → outcome p (searched A l) ≡ Refused 9
+module _ (p : Program) (d : ℕ) (A : ℕ) (l : List ℕ) where
+  search-nine : valid p ≡ false → outcome p d (searched A l) ≡ Refused 9
   unfolding outcome
-  search-nine f = ap (λ a. a .outcome) (searches.refused p A l f .0)
+  search-nine f = ap (λ a. a .outcome) (searches.refused p d A l f .0)
 
-  search-lowest : listed p (searched A l) ≡ take (written p (searched A l)) (allModels p)
+  search-lowest : listed p d (searched A l) ≡ take (written p d (searched A l)) (allModels p d)
   unfolding listed written exit searchListed Begins
-  search-lowest = sym (searches.lists-lowest p A l) ∙ ap (λ (k : ℕ). take k (allModels p)) (searching.counted p A l)
+  search-lowest = sym (searches.lists-lowest p d A l) ∙ ap (λ (k : ℕ). take k (allModels p d)) (searching.counted p d A l)
 
-  search-all : outcome p (searched A l) ≡ Complete → listed p (searched A l) ≡ allModels p
+  search-all : outcome p d (searched A l) ≡ Complete → listed p d (searched A l) ≡ allModels p d
   search-all e = ⊎-elim
       (λ v.
-      let s = searching.by-search p v A l in
+      let s = searching.by-search p d v A l in
       let c = s .complete .0 e in
-      search-lowest ∙ take-all (written p (searched A l)) (allModels p) (omega (arith, c .1, s .writes, searching.all-leaves p v A l (c .0))))
+      search-lowest ∙ take-all (written p d (searched A l)) (allModels p d) (omega (arith, c .1, s .writes, searching.all-leaves p d v A l (c .0))))
       (λ f. refused-complete (search-nine f) e)
       (dec (valid p))
 
-  search-run : OneRun p (searched A l)
+  search-run : OneRun p d (searched A l)
   unfolding outcome written exit listed visited lent searchListed ByRoute
   search-run = record {
     lowest = search-lowest;
-    counted = searching.counted p A l;
-    rising = rises p (searched A l) search-lowest (searching.counted p A l);
+    counted = searching.counted p d A l;
+    rising = rises p d (searched A l) search-lowest (searching.counted p d A l);
     complete-all = search-all;
-    behind = searches.keeps-rest p A l;
-    places = searches.same-places p A l;
-    nine = (λ e. ⊎-elim (λ v. absurd (searching.by-search p v A l .never-refused 9 e)) (λ f. f) (dec (valid p)), search-nine);
+    behind = searches.keeps-rest p d A l;
+    places = searches.same-places p d A l;
+    nine = (λ e. ⊎-elim (λ v. absurd (searching.by-search p d v A l .never-refused 9 e)) (λ f. f) (dec (valid p)), search-nine);
     refused = λ n e. ⊎-elim
-        (λ v. absurd (searching.by-search p v A l .never-refused n e))
-        (λ f. (searches.listed-none p A l f, ap (λ a. a .visited) (searches.refused p A l f .0)))
+        (λ v. absurd (searching.by-search p d v A l .never-refused n e))
+        (λ f. (searches.listed-none p d A l f, ap (λ a. a .visited) (searches.refused p d A l f .0)))
         (dec (valid p));
-    by-route = λ v. searching.by-search p v A l;
+    by-route = λ v. searching.by-search p d v A l;
   }
 
 -- ---- a run by fixpoint
-module _ (p : Program) (l w v : List ℕ) where
-  fix-lowest : listed p (fixed l w v) ≡ take (written p (fixed l w v)) (allModels p)
+module _ (p : Program) (d : ℕ) (l w v : List ℕ) where
+  fix-lowest : listed p d (fixed l w v) ≡ take (written p d (fixed l w v)) (allModels p d)
   unfolding listed written exit
-  fix-lowest = fixing.leaves-first (fixing.left p l w v)
+  fix-lowest = fixing.leaves-first (fixing.left p d l w v)
 
-  fix-counted : length (listed p (fixed l w v)) ≡ written p (fixed l w v)
+  fix-counted : length (listed p d (fixed l w v)) ≡ written p d (fixed l w v)
   unfolding listed written exit
-  fix-counted = fixing.leaves-count (fixing.left p l w v)
+  fix-counted = fixing.leaves-count (fixing.left p d l w v)
 
   -- a table that is not accepted is refused by 9
-  nine-is : valid p ≡ false → (outcome p (fixed l w v) ≡ Refused 9) × (written p (fixed l w v) ≡ 0)
+  nine-is : valid p ≡ false → (outcome p d (fixed l w v) ≡ Refused 9) × (written p d (fixed l w v) ≡ 0)
   unfolding outcome written fixedRefused
-  nine-is f = let e = fixing.refused-nine p l w v f in (ap (λ a. a .outcome) e, ap (λ a. a .written) e)
+  nine-is f = let e = fixing.refused-nine p d l w v f in (ap (λ a. a .outcome) e, ap (λ a. a .written) e)
 
-  fix-all : outcome p (fixed l w v) ≡ Complete → listed p (fixed l w v) ≡ allModels p
+  fix-all : outcome p d (fixed l w v) ≡ Complete → listed p d (fixed l w v) ≡ allModels p d
   fix-all e = ⊎-elim
       (λ t.
-      let f = fixing.by-fixpoint p l w v t in
+      let f = fixing.by-fixpoint p d l w v t in
       let m = f .complete .0 e .2 in
       let n = f .writes (λ k i. refused-complete i e) in
-      fix-lowest ∙ take-all (written p (fixed l w v)) (allModels p) (omega arith))
+      fix-lowest ∙ take-all (written p d (fixed l w v)) (allModels p d) (omega arith))
       (λ f. refused-complete (nine-is f .0) e)
       (dec (valid p))
 
-  fix-none : (n : ℕ) → outcome p (fixed l w v) ≡ Refused n → listed p (fixed l w v) ≡ []
-  fix-none n e = fix-lowest ∙ ap (λ (k : ℕ). take k (allModels p)) (⊎-elim (λ t. fixing.by-fixpoint p l w v t .writes-none n e) (λ f. nine-is f .1) (dec (valid p)))
+  fix-none : (n : ℕ) → outcome p d (fixed l w v) ≡ Refused n → listed p d (fixed l w v) ≡ []
+  fix-none n e = fix-lowest ∙ ap (λ (k : ℕ). take k (allModels p d)) (⊎-elim (λ t. fixing.by-fixpoint p d l w v t .writes-none n e) (λ f. nine-is f .1) (dec (valid p)))
 
-  fix-nine : outcome p (fixed l w v) ≡ Refused 9 → valid p ≡ false
+  fix-nine : outcome p d (fixed l w v) ≡ Refused 9 → valid p ≡ false
   fix-nine e = ⊎-elim
-      (λ t. absurd (⊎-elim (λ (i : 9 ≡ 11). omega arith) (λ (i : 9 ≡ 12). omega arith) (fixing.by-fixpoint p l w v t .no-other 9 e)))
+      (λ t. absurd (⊎-elim (λ (i : 9 ≡ 11). omega arith) (λ (i : 9 ≡ 12). omega arith) (fixing.by-fixpoint p d l w v t .no-other 9 e)))
       (λ f. f)
       (dec (valid p))
 
-  fix-run : OneRun p (fixed l w v)
+  fix-run : OneRun p d (fixed l w v)
   unfolding lent written exit visited ByRoute
   fix-run = record {
     lowest = fix-lowest;
     counted = fix-counted;
-    rising = rises p (fixed l w v) fix-lowest fix-counted;
+    rising = rises p d (fixed l w v) fix-lowest fix-counted;
     complete-all = fix-all;
-    behind = fixing.leaves-rest (fixing.left p l w v);
-    places = fixing.leaves-length (fixing.left p l w v);
+    behind = fixing.leaves-rest (fixing.left p d l w v);
+    places = fixing.leaves-length (fixing.left p d l w v);
     nine = (fix-nine, λ f. nine-is f .0);
     refused = λ n e. (fix-none n e, refl);
-    by-route = fixing.by-fixpoint p l w v;
+    by-route = fixing.by-fixpoint p d l w v;
   }
 
 -- ---- any two
-one-run : (p : Program) (r : Run) → OneRun p r
-one-run p (searched A l) = search-run p A l
-one-run p (fixed l w v) = fix-run p l w v
+one-run : (p : Program) (d : ℕ) (r : Run) → OneRun p d r
+one-run p d (searched A l) = search-run p d A l
+one-run p d (fixed l w v) = fix-run p d l w v
 
-two-runs : (p : Program) (r s : Run) → TwoRuns p r s
-two-runs p r s =
-    let a = one-run p r in
-    let b = one-run p s in
-    let x = begins p r (a .lowest) (a .counted) in
-    let y = begins p s (b .lowest) (b .counted) in
+two-runs : (p : Program) (d : ℕ) (r s : Run) → TwoRuns p d r s
+two-runs p d r s =
+    let a = one-run p d r in
+    let b = one-run p d s in
+    let x = begins p d r (a .lowest) (a .counted) in
+    let y = begins p d s (b .lowest) (b .counted) in
     record {
-      shorter = λ h. begins-both (listed p r) (listed p s) (allModels p) x y h;
-      longer = λ h. begins-both (listed p s) (listed p r) (allModels p) y x h;
-      equal = λ e. begins-same (listed p r) (listed p s) (allModels p) x y e;
-      all-models = every-model p;
+      shorter = λ h. begins-both (listed p d r) (listed p d s) (allModels p d) x y h;
+      longer = λ h. begins-both (listed p d s) (listed p d r) (allModels p d) y x h;
+      equal = λ e. begins-same (listed p d r) (listed p d s) (allModels p d) x y e;
+      all-models = every-model p d;
       first = a;
       second = b;
     }

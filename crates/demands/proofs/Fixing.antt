@@ -30,18 +30,19 @@ use Rattle.demands.specs.Demand3.{outcome, written, allModels, Crowded, 
 use Rattle.demands.proofs.Outcomes.{full-spent, full-complete, spent-complete, refused-full, refused-spent, refused-complete, one-number}
 
 -- ---- the room
-module _ (p : Program) (room : ℕ) where
-  is-crowded : crowded (transformOf p) room ≡ true → Crowded p room
+module _ (p : Program) (d : ℕ) (room : ℕ) where
+  is-crowded : crowded (transformOf p d) room ≡ true → Crowded p d room
   unfolding crowded
   is-crowded e =
-      let s = some-in (λ k. ltb room (length (stage (transformOf p) k))) (below (suc (ending (transformOf p)))) e in
-      let i = in-below (suc (ending (transformOf p))) (s .0) (s .1) in
-      (s .0, omega arith, ltb-true room (length (stage (transformOf p) (s .0))) (s .2))
+      let s = some-in (λ k. ltb room (length (stage (transformOf p d) k))) (below (suc (ending (transformOf p d)))) e in
+      let i = in-below (suc (ending (transformOf p d))) (s .0) (s .1) in
+      (s .0, omega arith, ltb-true room (length (stage (transformOf p d) (s .0))) (s .2))
 
-  not-crowded : crowded (transformOf p) room ≡ false → Crowded p room → ⊥
+  not-crowded : crowded (transformOf p d) room ≡ false → Crowded p d room → ⊥
   unfolding crowded
-  not-crowded e c = clash (ltb room (length (stage (transformOf p) (c .0)))) (lt-ltb room (length (stage (transformOf p) (c .0))) (c .2))
-      (none-each (λ k. ltb room (length (stage (transformOf p) k))) (below (suc (ending (transformOf p)))) e (c .0) (below-in (suc (ending (transformOf p))) (c .0) (let h = c .1 in omega arith)))
+  not-crowded e c = clash (ltb room (length (stage (transformOf p d) (c .0)))) (lt-ltb room (length (stage (transformOf p d) (c .0))) (c .2))
+      (none-each (λ k. ltb room (length (stage (transformOf p d) k))) (below (suc (ending (transformOf p d)))) e (c .0)
+      (below-in (suc (ending (transformOf p d))) (c .0) (let h = c .1 in omega arith)))
 
 -- ---- the list at exit
 -- the first n of the words xs stand at the start of the list l, and o is what it holds then
@@ -81,14 +82,14 @@ leaves-all xs l h = record { here = le-refl (length xs); there = h; is = ap (λ 
 abbrev answer : Outcome → ℕ → FixpointAnswer
 answer o n = record { outcome = o; written = n }
 
-data Ended (p : Program) (l w v : List ℕ) : Type 0 where
-  by-nine : valid p ≡ false → answerOf p l w v ≡ refused 9 → exitOf p l w v ≡ l → Ended p l w v
-  by-eleven : valid p ≡ true → 64 < vocabulary p → answerOf p l w v ≡ refused 11 → exitOf p l w v ≡ l → Ended p l w v
-  by-twelve : valid p ≡ true → vocabulary p ≤ 64 → Crowded p (roomOf w v) → answerOf p l w v ≡ refused 12 → exitOf p l w v ≡ l → Ended p l w v
-  ends-full : valid p ≡ true → vocabulary p ≤ 64 → (Crowded p (roomOf w v) → ⊥) → length l < length (allModels p)
-      → answerOf p l w v ≡ answer Full (length l) → exitOf p l w v ≡ overwrite l (allModels p) → Ended p l w v
-  ends-complete : valid p ≡ true → vocabulary p ≤ 64 → (Crowded p (roomOf w v) → ⊥) → length (allModels p) ≤ length l
-      → answerOf p l w v ≡ answer Complete (length (allModels p)) → exitOf p l w v ≡ overwrite l (allModels p) → Ended p l w v
+data Ended (p : Program) (d : ℕ) (l w v : List ℕ) : Type 0 where
+  by-nine : valid p ≡ false → answerOf p d l w v ≡ refused 9 → exitOf p d l w v ≡ l → Ended p d l w v
+  by-eleven : valid p ≡ true → 64 < vocabulary p d → answerOf p d l w v ≡ refused 11 → exitOf p d l w v ≡ l → Ended p d l w v
+  by-twelve : valid p ≡ true → vocabulary p d ≤ 64 → Crowded p d (roomOf w v) → answerOf p d l w v ≡ refused 12 → exitOf p d l w v ≡ l → Ended p d l w v
+  ends-full : valid p ≡ true → vocabulary p d ≤ 64 → (Crowded p d (roomOf w v) → ⊥) → length l < length (allModels p d)
+      → answerOf p d l w v ≡ answer Full (length l) → exitOf p d l w v ≡ overwrite l (allModels p d) → Ended p d l w v
+  ends-complete : valid p ≡ true → vocabulary p d ≤ 64 → (Crowded p d (roomOf w v) → ⊥) → length (allModels p d) ≤ length l
+      → answerOf p d l w v ≡ answer Complete (length (allModels p d)) → exitOf p d l w v ≡ overwrite l (allModels p d) → Ended p d l w v
 
 listed-full : (n places : ℕ) → places < n → listed n places ≡ answer Full places
 unfolding listed
@@ -98,43 +99,43 @@ listed-complete : (n places : ℕ) → n ≤ places → listed n places ≡ answ
 unfolding listed
 listed-complete n places h = let m : min n places ≡ n = omega arith in ap₂ answer (rw (le-leb n places h)) m
 
-ended : (p : Program) (l w v : List ℕ) → Ended p l w v
+ended : (p : Program) (d : ℕ) (l w v : List ℕ) → Ended p d l w v
 unfolding answerOf exitOf refusal lowest
-ended p l w v = go (valid p) (ltb 64 (vocabulary p)) (crowded (transformOf p) (roomOf w v)) refl refl refl
+ended p d l w v = go (valid p) (ltb 64 (vocabulary p d)) (crowded (transformOf p d) (roomOf w v)) refl refl refl
   where
-    go : (a x y : Bool) → valid p ≡ a → ltb 64 (vocabulary p) ≡ x → crowded (transformOf p) (roomOf w v) ≡ y → Ended p l w v
+    go : (a x y : Bool) → valid p ≡ a → ltb 64 (vocabulary p d) ≡ x → crowded (transformOf p d) (roomOf w v) ≡ y → Ended p d l w v
     go false x y e f g = by-nine e (rw e) (rw e)
-    go true true y e f g = by-eleven e (ltb-true 64 (vocabulary p) f) (rw (e, f)) (rw (e, f))
-    go true false true e f g = by-twelve e (ltb-false 64 (vocabulary p) f) (is-crowded p (roomOf w v) g) (rw (e, f, g)) (rw (e, f, g))
+    go true true y e f g = by-eleven e (ltb-true 64 (vocabulary p d) f) (rw (e, f)) (rw (e, f))
+    go true false true e f g = by-twelve e (ltb-false 64 (vocabulary p d) f) (is-crowded p d (roomOf w v) g) (rw (e, f, g)) (rw (e, f, g))
     go true false false e f g = ⊎-elim
-        (λ i. ends-full e h c i (says ∙ listed-full (length (allModels p)) (length l) i) lists)
-        (λ i. ends-complete e h c i (says ∙ listed-complete (length (allModels p)) (length l) i) lists)
-        (lt-or-ge (length l) (length (allModels p)))
+        (λ i. ends-full e h c i (says ∙ listed-full (length (allModels p d)) (length l) i) lists)
+        (λ i. ends-complete e h c i (says ∙ listed-complete (length (allModels p d)) (length l) i) lists)
+        (lt-or-ge (length l) (length (allModels p d)))
       where
-        h : vocabulary p ≤ 64
-        h = ltb-false 64 (vocabulary p) f
+        h : vocabulary p d ≤ 64
+        h = ltb-false 64 (vocabulary p d) f
 
-        c : Crowded p (roomOf w v) → ⊥
-        c = not-crowded p (roomOf w v) g
+        c : Crowded p d (roomOf w v) → ⊥
+        c = not-crowded p d (roomOf w v) g
 
-        all : found p ≡ allModels p
-        all = found-models p e h
+        all : found p d ≡ allModels p d
+        all = found-models p d e h
 
-        says : answerOf p l w v ≡ listed (length (allModels p)) (length l)
-        says = let q : answerOf p l w v ≡ listed (length (found p)) (length l) = rw (e, f, g) in q ∙ ap (λ (xs : List ℕ). listed (length xs) (length l)) all
+        says : answerOf p d l w v ≡ listed (length (allModels p d)) (length l)
+        says = let q : answerOf p d l w v ≡ listed (length (found p d)) (length l) = rw (e, f, g) in q ∙ ap (λ (xs : List ℕ). listed (length xs) (length l)) all
 
-        lists : exitOf p l w v ≡ overwrite l (allModels p)
-        lists = let q : exitOf p l w v ≡ overwrite l (found p) = rw (e, f, g) in q ∙ ap (overwrite l) all
+        lists : exitOf p d l w v ≡ overwrite l (allModels p d)
+        lists = let q : exitOf p d l w v ≡ overwrite l (found p d) = rw (e, f, g) in q ∙ ap (overwrite l) all
 
 -- ---- what is so of each way
-module _ (p : Program) (l w v : List ℕ) where
-  by-way : valid p ≡ true → Ended p l w v → ByFixpoint p l w v
+module _ (p : Program) (d : ℕ) (l w v : List ℕ) where
+  by-way : valid p ≡ true → Ended p d l w v → ByFixpoint p d l w v
   unfolding outcome written refused
   by-way t (by-nine e q x) = clash (valid p) t e
   by-way t (by-eleven e h q x) =
-      let o : answerOf p l w v .outcome ≡ Refused 11 = ap (λ a. a .outcome) q in
+      let o : answerOf p d l w v .outcome ≡ Refused 11 = ap (λ a. a .outcome) q in
       record {
-        ends = ends-run p t;
+        ends = ends-run p d t;
         eleven = (λ i. h, λ i. o);
         twelve = (λ i. absurd (omega (arith, one-number o i)), λ i. absurd (omega (arith, i .0)));
         no-other = λ n i. inl (one-number i o);
@@ -145,9 +146,9 @@ module _ (p : Program) (l w v : List ℕ) where
         writes-none = λ n i. ap (λ a. a .written) q;
       }
   by-way t (by-twelve e h c q x) =
-      let o : answerOf p l w v .outcome ≡ Refused 12 = ap (λ a. a .outcome) q in
+      let o : answerOf p d l w v .outcome ≡ Refused 12 = ap (λ a. a .outcome) q in
       record {
-        ends = ends-run p t;
+        ends = ends-run p d t;
         eleven = (λ i. absurd (omega (arith, one-number o i)), λ i. absurd (omega arith));
         twelve = (λ i. (h, c), λ i. o);
         no-other = λ n i. inr (one-number i o);
@@ -158,9 +159,9 @@ module _ (p : Program) (l w v : List ℕ) where
         writes-none = λ n i. ap (λ a. a .written) q;
       }
   by-way t (ends-full e h c m q x) =
-      let o : answerOf p l w v .outcome ≡ Full = ap (λ a. a .outcome) q in
+      let o : answerOf p d l w v .outcome ≡ Full = ap (λ a. a .outcome) q in
       record {
-        ends = ends-run p t;
+        ends = ends-run p d t;
         eleven = (λ i. refused-full i o, λ i. absurd (omega arith));
         twelve = (λ i. refused-full i o, λ i. absurd (c (i .1)));
         no-other = λ n i. refused-full i o;
@@ -171,9 +172,9 @@ module _ (p : Program) (l w v : List ℕ) where
         writes-none = λ n i. refused-full i o;
       }
   by-way t (ends-complete e h c m q x) =
-      let o : answerOf p l w v .outcome ≡ Complete = ap (λ a. a .outcome) q in
+      let o : answerOf p d l w v .outcome ≡ Complete = ap (λ a. a .outcome) q in
       record {
-        ends = ends-run p t;
+        ends = ends-run p d t;
         eleven = (λ i. refused-complete i o, λ i. absurd (omega arith));
         twelve = (λ i. refused-complete i o, λ i. absurd (c (i .1)));
         no-other = λ n i. refused-complete i o;
@@ -184,21 +185,21 @@ module _ (p : Program) (l w v : List ℕ) where
         writes-none = λ n i. refused-complete i o;
       }
 
-  pub by-fixpoint : valid p ≡ true → ByFixpoint p l w v
-  by-fixpoint t = by-way t (ended p l w v)
+  pub by-fixpoint : valid p ≡ true → ByFixpoint p d l w v
+  by-fixpoint t = by-way t (ended p d l w v)
 
   -- the list at exit, of every table
-  left-by : Ended p l w v → Leaves (answerOf p l w v .written) (allModels p) l (exitOf p l w v)
+  left-by : Ended p d l w v → Leaves (answerOf p d l w v .written) (allModels p d) l (exitOf p d l w v)
   unfolding refused
-  left-by (by-nine e q x) = rw (q, x) (leaves-none (allModels p) l)
-  left-by (by-eleven e h q x) = rw (q, x) (leaves-none (allModels p) l)
-  left-by (by-twelve e h c q x) = rw (q, x) (leaves-none (allModels p) l)
-  left-by (ends-full e h c m q x) = rw (q, x) (leaves-some (allModels p) l (omega arith))
-  left-by (ends-complete e h c m q x) = rw (q, x) (leaves-all (allModels p) l m)
+  left-by (by-nine e q x) = rw (q, x) (leaves-none (allModels p d) l)
+  left-by (by-eleven e h q x) = rw (q, x) (leaves-none (allModels p d) l)
+  left-by (by-twelve e h c q x) = rw (q, x) (leaves-none (allModels p d) l)
+  left-by (ends-full e h c m q x) = rw (q, x) (leaves-some (allModels p d) l (omega arith))
+  left-by (ends-complete e h c m q x) = rw (q, x) (leaves-all (allModels p d) l m)
 
-  pub left : Leaves (answerOf p l w v .written) (allModels p) l (exitOf p l w v)
-  left = left-by (ended p l w v)
+  pub left : Leaves (answerOf p d l w v .written) (allModels p d) l (exitOf p d l w v)
+  left = left-by (ended p d l w v)
 
-  pub refused-nine : valid p ≡ false → answerOf p l w v ≡ refused 9
+  pub refused-nine : valid p ≡ false → answerOf p d l w v ≡ refused 9
   unfolding answerOf refusal lowest
   refused-nine e = rw e

@@ -18,28 +18,28 @@ use Rattle.tree.proofs.Runs as runs
 use Rattle.demands.specs.Demand3.{outcome, written, visited, allModels, leavesIn, N, BySearch}
 use Rattle.demands.proofs.Outcomes.{full-spent, full-complete, spent-complete, refused-full, refused-spent, refused-complete}
 
-module _ (p : Program) (v : valid p ≡ true) (A : ℕ) (l : List ℕ) where
+module _ (p : Program) (d : ℕ) (v : valid p ≡ true) (A : ℕ) (l : List ℕ) where
   -- an allowance of N reaches every p-stable leaf
-  pub all-leaves : N p ≤ A → length (leavesIn p A) ≡ length (allModels p)
-  all-leaves h = ap (λ xs. length (hits (leafOf p) xs)) (take-all A (nodesOf p) h) ∙ ap length (runs.leaves-of p)
+  pub all-leaves : N p d ≤ A → length (leavesIn p d A) ≡ length (allModels p d)
+  all-leaves h = ap (λ xs. length (hits (leafOf p d) xs)) (take-all A (nodesOf p d) h) ∙ ap length (runs.leaves-of p d)
 
-  by-way : Ended (length l) (length (leavesIn p A)) A (N p) (fullAt (leafOf p) (nodesOf p) (length l)) (answerOf p A l) → BySearch p A l
+  by-way : Ended (length l) (length (leavesIn p d A)) A (N p d) (fullAt (leafOf p d) (nodesOf p d) (length l)) (answerOf p d A l) → BySearch p d A l
   unfolding outcome written visited
   by-way (ends-full h q) =
-      let o : answerOf p A l .outcome ≡ Full = ap (λ a. a .outcome) q in
-      let c : answerOf p A l .visited ≡ fullAt (leafOf p) (nodesOf p) (length l) = ap (λ a. a .visited) q in
+      let o : answerOf p d A l .outcome ≡ Full = ap (λ a. a .outcome) q in
+      let c : answerOf p d A l .visited ≡ fullAt (leafOf p d) (nodesOf p d) (length l) = ap (λ a. a .visited) q in
       record {
         full = (λ e. h, λ k. o);
         spent = (λ e. full-spent o e, λ k. absurd (omega (arith, k .0)));
         complete = (λ e. full-complete o e, λ k. absurd (omega (arith, k .1, all-leaves (k .0))));
         never-refused = λ n e. refused-full e o;
         writes = ap (λ a. a .written) q ∙ omega arith;
-        visits-full = λ e. (rw c (comes (leafOf p) (nodesOf p) (length l) A h), λ m i. not-before (leafOf p) (nodesOf p) (length l) m (rw c at i));
+        visits-full = λ e. (rw c (comes (leafOf p d) (nodesOf p d) (length l) A h), λ m i. not-before (leafOf p d) (nodesOf p d) (length l) m (rw c at i));
         visits-spent = λ e. full-spent o e;
         visits-complete = λ e. full-complete o e;
       }
   by-way (ends-spent h k q) =
-      let o : answerOf p A l .outcome ≡ Spent = ap (λ a. a .outcome) q in
+      let o : answerOf p d A l .outcome ≡ Spent = ap (λ a. a .outcome) q in
       record {
         full = (λ e. full-spent e o, λ i. absurd (omega arith));
         spent = (λ e. (h, k), λ i. o);
@@ -51,7 +51,7 @@ module _ (p : Program) (v : valid p ≡ true) (A : ℕ) (l : List ℕ) where
         visits-complete = λ e. spent-complete o e;
       }
   by-way (ends-complete h k q) =
-      let o : answerOf p A l .outcome ≡ Complete = ap (λ a. a .outcome) q in
+      let o : answerOf p d A l .outcome ≡ Complete = ap (λ a. a .outcome) q in
       record {
         full = (λ e. full-complete e o, λ i. absurd (omega arith));
         spent = (λ e. spent-complete e o, λ i. absurd (omega (arith, i .1)));
@@ -63,15 +63,15 @@ module _ (p : Program) (v : valid p ≡ true) (A : ℕ) (l : List ℕ) where
         visits-complete = λ e. ap (λ a. a .visited) q;
       }
 
-  pub by-search : BySearch p A l
-  by-search = by-way (rw (runs.accepted p A l v .0) (ended (leafOf p) (nodesOf p) A (length l)))
+  pub by-search : BySearch p d A l
+  by-search = by-way (rw (runs.accepted p d A l v .0) (ended (leafOf p d) (nodesOf p d) A (length l)))
 
 -- ---- of every table
-module _ (p : Program) (A : ℕ) (l : List ℕ) where
+module _ (p : Program) (d : ℕ) (A : ℕ) (l : List ℕ) where
   -- as many words are listed as are counted
-  pub counted : length (take (answerOf p A l .written) (exitOf p A l)) ≡ answerOf p A l .written
+  pub counted : length (take (answerOf p d A l .written) (exitOf p d A l)) ≡ answerOf p d A l .written
   unfolding listed
   counted = ⊎-elim
-      (λ v. ap length (runs.listed-is p A l v) ∙ sym (runs.written-is (leafOf p) (nodesOf p) A (length l)) ∙ ap (λ a. a .written) (sym (runs.accepted p A l v .0)))
-      (λ v. ap length (runs.listed-none p A l v) ∙ ap (λ a. a .written) (sym (runs.refused p A l v .0)))
+      (λ v. ap length (runs.listed-is p d A l v) ∙ sym (runs.written-is (leafOf p d) (nodesOf p d) A (length l)) ∙ ap (λ a. a .written) (sym (runs.accepted p d A l v .0)))
+      (λ v. ap length (runs.listed-none p d A l v) ∙ ap (λ a. a .written) (sym (runs.refused p d A l v .0)))
       (dec (valid p))

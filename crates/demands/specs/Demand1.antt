@@ -5,7 +5,7 @@ use mathlib.Core.Path.{_≡_}
 use mathlib.Core.Logic.{_↔_}
 use mathlib.Core.Bool.{Bool, true, false}
 use mathlib.Core.List.{List, [], _∷_, _++_, map}
-use Prim.Native.Nat.{ℕ, _*_, _<_}
+use Prim.Native.Nat.{ℕ, _*_, _≤_, _<_}
 use lib.ListN.{length}
 use Rattle.sets.specs.Lists.{Each}
 use Rattle.lists.specs.Bytes.{oneIf}
@@ -75,18 +75,18 @@ ofChecked checked.Stable = Accepted
 -- every number of a table
 abbrev pub numbersOf : Program → List ℕ
 numbersOf p =
-    p .«atom_count» ∷ p .«clause_count» ∷ oneIf (p .held .«in_use») ∷ p .held .head ∷ p .held .body ∷ p .held .naf
-    ∷ (p .«atom_names» ++ (p .heads ++ (p .bodies ++ p .nafs)))
+    p .«atom_count» ∷ p .«clause_count» ∷ oneIf (p .dated) ∷ oneIf (p .held .«in_use») ∷ p .held .head ∷ p .held .body ∷ p .held .naf ∷ p .held .first ∷ p .held .last
+    ∷ (p .«atom_names» ++ (p .heads ++ (p .bodies ++ (p .nafs ++ (p .firsts ++ p .lasts)))))
 
 -- ---- a call that was made: what it was handed, what it answered, and what it was lent. A text that is read, and a list of words that is summed up, cannot be written.
 pub data Call : Type 0 where
   read : (text : List ℕ) → Read → Call
   write : Program → (out : Lent) → Written → Call
-  check : Program → (word : ℕ) → Checked → Call
+  check : Program → (day word : ℕ) → Checked → Call
   summarize : Program → (words : List ℕ) → Summary → Call
-  search : Program → (limit : ℕ) (models : Lent) → SearchAnswer → Call
-  fixpoint : Program → (models first second : Lent) → FixpointAnswer → Call
-  hold : Program → (clause : Clause) → HoldAnswer → Call
+  search : Program → (day limit : ℕ) (models : Lent) → SearchAnswer → Call
+  fixpoint : Program → (day : ℕ) (models first second : Lent) → FixpointAnswer → Call
+  hold : Program → (clause : Clause) (first last : ℕ) → HoldAnswer → Call
   keep : Program → ClearAnswer → Call
   release : Program → ClearAnswer → Call
 
@@ -99,17 +99,17 @@ abbrev pub told-back : Type 0 → List (ℕ × Bool) → Verdict → Program →
 told-back c ts v p q = record { promised = c; meets = ts; verdict = v; shows = []; lent = []; free = []; tables = (p, q) ∷ [] }
 
 -- "The reader meets 1 to 8, check and summary 9 and 10, the search 9, the fixpoint 9, 11, 12, the writer 9 and 13.";
--- document 02, U5: "on holding, after 9, 16 .., then 17 .., then 18 .."; keeping and releasing meet 9
+-- document 02, U5: "on holding, after 9, 16 .., then 17 .., then 18 .."; keeping and releasing meet 9; U13: "22, behind 8 in reading and behind 18 in holding"
 unfoldable pub told : Call → Told
 told (read b r) = told-by (r ≡ readOf b) (reading.refusals b) (r .verdict) (numbersOf (r .program)) [] []
 told (write p o r) = told-by (Writes p (o .entry) r (o .exit)) (writeRefusals p (o .entry)) (ofWritten r) (writtenLength r ∷ []) (o ∷ []) []
-told (check p w r) = told-by (Checks p w r) (checking.refusals p w) (ofChecked r) [] [] []
+told (check p d w r) = told-by (Checks p d w r) (checking.refusals p w) (ofChecked r) [] [] []
 told (summarize p ws r) = told-by (r ≡ summaryOf p ws) (summing.refusals p ws) (r .verdict) (r .occurring ++ map oneIf (r .settled)) [] []
-told (search p A l r) = told-by (Searches p A (l .entry) r (l .exit)) (searching.refusals p) (ofOutcome (r .outcome)) (r .written ∷ r .visited ∷ []) (l ∷ []) []
-told (fixpoint p l w v r) =
-    told-by (Fixes p (l .entry) (w .entry) (v .entry) r (l .exit) (w .exit) (v .exit)) (fixing.refusals p (roomOf (w .entry) (v .entry)))
+told (search p d A l r) = told-by (Searches p d A (l .entry) r (l .exit)) (searching.refusals p) (ofOutcome (r .outcome)) (r .written ∷ r .visited ∷ []) (l ∷ []) []
+told (fixpoint p d l w v r) =
+    told-by (Fixes p d (l .entry) (w .entry) (v .entry) r (l .exit) (w .exit) (v .exit)) (fixing.refusals p d (roomOf (w .entry) (v .entry)))
     (ofOutcome (r .outcome)) (r .written ∷ []) (l ∷ []) (w ∷ v ∷ [])
-told (hold p c r) = told-back (r ≡ holdOf p c) (holdRefusals p c) (ofHold (r .status)) p (r .program)
+told (hold p c f l r) = told-back (r ≡ holdOf p c f l) (holdRefusals p c f l) (ofHold (r .status)) p (r .program)
 told (keep p r) = told-back (r ≡ keepOf p) (clearRefusals p) (ofClear (r .status)) p (r .program)
 told (release p r) = told-back (r ≡ releaseOf p) (clearRefusals p) (ofClear (r .status)) p (r .program)
 
@@ -133,6 +133,8 @@ pub record MayHold (p : Program) : Type 0 where
   -- document 02, U5: "a table may hold a clause if that clause is neither empty nor outside the names and fewer than 64 stand"
   pub clause : p .held .«in_use» ≡ true
       → (heldClause (p .held) ≡ noClause → ⊥) × Below (2 * p .«atom_count») (heldClause (p .held)) × (p .«clause_count» < 64)
+  -- document 02, U13: "A held clause of a dated table carries its two days, which 9 wants in order"; "On an undated table the days given are passed over and held as 0."
+  pub days : p .held .«in_use» ≡ true → (p .held .first ≤ p .held .last) × (p .dated ≡ false → (p .held .first ≡ 0) × (p .held .last ≡ 0))
   -- "unused places in it hold zero"
   pub nothing : p .held .«in_use» ≡ false → p .held ≡ nothingHeld
 
@@ -144,7 +146,8 @@ Given p = (b : List ℕ) × (readOf b .verdict ≡ Accepted) × (readOf b .progr
 pub record Demand1 : Type 0 where
   -- of every call that meets its contract, as every call is proved to
   pub answers : (c : Call) → told c .promised → Answers (told c)
-  -- what 9 asks: "A table handed to a later call is none that the reader could give.", but for what it may hold (`Sized` is what a table's type gives: the lengths of its arrays)
+  -- what 9 asks: "A table handed to a later call is none that the reader could give.", but for what it may hold
+  -- (`Sized` is what a table's type gives: the lengths of its arrays, and that days are 16-bit numbers)
   pub nine : (p : Program) → Sized p → (valid p ≡ true) ↔ (Given (released p) × MayHold p)
   -- what the reader gives is exactly the valid tables with nothing held
   pub given : (p : Program) → Sized p → ((valid p ≡ true) × (p .held .«in_use» ≡ false)) ↔ Given p

@@ -13,11 +13,11 @@ use Rattle.demands.specs.Demand1.{Call, read, write, check, summarize, s
 unfoldable pub handed : Call → List Program
 handed (read b r) = []
 handed (write p o r) = p ∷ []
-handed (check p w r) = p ∷ []
+handed (check p d w r) = p ∷ []
 handed (summarize p ws r) = p ∷ []
-handed (search p A l r) = p ∷ []
-handed (fixpoint p l w v r) = p ∷ []
-handed (hold p c r) = []
+handed (search p d A l r) = p ∷ []
+handed (fixpoint p d l w v r) = p ∷ []
+handed (hold p c f l r) = []
 handed (keep p r) = []
 handed (release p r) = []
 
@@ -25,11 +25,11 @@ handed (release p r) = []
 unfoldable pub without : Call → Call
 without (read b r) = read b r
 without (write p o r) = write (released p) o r
-without (check p w r) = check (released p) w r
+without (check p d w r) = check (released p) d w r
 without (summarize p ws r) = summarize (released p) ws r
-without (search p A l r) = search (released p) A l r
-without (fixpoint p l w v r) = fixpoint (released p) l w v r
-without (hold p c r) = hold p c r
+without (search p d A l r) = search (released p) d A l r
+without (fixpoint p d l w v r) = fixpoint (released p) d l w v r
+without (hold p c f l r) = hold p c f l r
 without (keep p r) = keep p r
 without (release p r) = release p r
 

@@ -5,6 +5,9 @@ use answers::FREE;
 use answers::PLACES;
 use program::Program;
 
+// The day on which every table is tried.
+pub const DAY: u16 = 0;
+
 // The words that a working slice has at the most.
 pub const ROOM: usize = 65536;
 
@@ -27,7 +30,7 @@ fn fixpoint_in(
 ) -> Answer {
     let m = lists::least(one, first.len());
     let n = lists::least(other, second.len());
-    let a = fixpoint::fixpoint(p, list, &mut first[START..m], &mut second[START..n]);
+    let a = fixpoint::fixpoint(p, DAY, list, &mut first[START..m], &mut second[START..n]);
     let outcome = a.outcome;
     answers::of_outcome(outcome, a.written as u64, 0)
 }

@@ -85,7 +85,7 @@ fn fill(path: &[u8], file: &mut [u8]) -> usize
     count
 }
 
-// The largest file, the refusals, has 168,623 bytes.
+// The largest file, the refusals, has 246,648 bytes.
 // How many records of the file agree, read into a slice that is lent for it.
 fn count_in(path: &[u8], edge: Edge, file: &mut [u8]) -> u64 {
     let n = fill(path, file);
@@ -93,7 +93,7 @@ fn count_in(path: &[u8], edge: Edge, file: &mut [u8]) -> u64 {
 }
 
 fn count(path: &[u8], edge: Edge) -> u64 {
-    let mut file = [0u8; 196608];
+    let mut file = [0u8; 262144];
     count_in(path, edge, &mut file)
 }
 

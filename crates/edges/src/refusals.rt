@@ -10,7 +10,9 @@ fn is_zero_at(p: Program, k: usize) -> bool {
     if 64 <= k {
         return p.atom_names[k] == 0;
     }
-    (p.atom_names[k] == 0) & ((p.heads[k] | p.bodies[k] | p.nafs[k]) == 0)
+    (p.atom_names[k] == 0)
+        & ((p.heads[k] | p.bodies[k] | p.nafs[k]) == 0)
+        & ((p.firsts[k] | p.lasts[k]) == 0)
 }
 
 fn is_zero_table(p: Program) -> bool {
@@ -26,6 +28,8 @@ fn is_zero_table(p: Program) -> bool {
         & (p.clause_count == 0)
         & !held.in_use
         & ((held.head | held.body | held.naf) == 0)
+        & ((held.first | held.last) == 0)
+        & !p.dated
 }
 
 fn one_if(b: bool) -> u64 {

@@ -1,5 +1,6 @@
 // A table with one field changed by hand is refused by 9 wherever a call takes a table, or is still one that 9 does not refuse.
 use crate::asking;
+use crate::asking::DAY;
 use crate::asking::ROOM;
 use crate::saying;
 use answers::ANY;
@@ -36,6 +37,30 @@ fn low_word(value: u64) -> u32 {
     FREE
 }
 
+fn low_day(value: u64) -> u16 {
+    if 65535 < value {
+        return 65535;
+    }
+    value as u16
+}
+
+// A first day, a last day, or whether the book was dated.
+fn with_days(given: Program, field: u64, at: usize, value: u16) -> Program {
+    let mut p = given;
+    if at < 64 {
+        if field == 14 {
+            p.firsts[at] = value;
+        }
+        if field == 15 {
+            p.lasts[at] = value;
+        }
+        if field == 16 {
+            p.dated = 0 < value;
+        }
+    }
+    p
+}
+
 fn with_clause(given: Program, field: u64, at: usize, value: u32) -> Program {
     let mut p = given;
     if at < 64 {
@@ -52,10 +77,14 @@ fn with_clause(given: Program, field: u64, at: usize, value: u32) -> Program {
     p
 }
 
-// A head, a body or a not-part in the separate place, which is in use up to field 8.
-fn with_held(given: Program, field: u64, value: u32) -> Program {
+fn is_in_use(field: u64) -> bool {
+    (field <= 8) | (field == 12)
+}
+
+// A head, a body or a not-part in the separate place.
+fn held_part(field: u64, value: u32) -> HeldClause {
     let mut held = program::nothing_held();
-    held.in_use = field <= 8;
+    held.in_use = is_in_use(field);
     if field % 3 == 0 {
         held.head = value;
     }
@@ -65,13 +94,32 @@ fn with_held(given: Program, field: u64, value: u32) -> Program {
     if field % 3 == 2 {
         held.naf = value;
     }
+    held
+}
+
+// The first name as a fact with two days in the separate place, or the days alone where it is not in use.
+fn held_days(field: u64, first: u16, last: u16) -> HeldClause {
+    let used = is_in_use(field);
+    HeldClause {
+        in_use: used,
+        head: used as u32,
+        body: 0,
+        naf: 0,
+        first: first,
+        last: last,
+    }
+}
+
+fn with_held(given: Program, held: HeldClause) -> Program {
     let mut p = given;
     p.held = held;
     p
 }
 
 // The table with one field changed: 0 the names, 1 a byte of a name, 2 the clauses, 3 to 5 a head, a body, a not-part,
-// 6 to 8 a head, a body, a not-part that is held, and 9 to 11 the same in a place that is not in use.
+// 6 to 8 a head, a body, a not-part that is held, and 9 to 11 the same in a place that is not in use,
+// 12 the two days of a clause that is held, and 13 the same in a place that is not in use, of which the place is the first and the value the last,
+// 14 a first day, 15 a last day, 16 whether the book was dated.
 fn forged(text: &[u8], field: u64, at: usize, value: u64) -> Program {
     let mut p = asking::table_of(text);
     if field == 0 {
@@ -85,20 +133,26 @@ fn forged(text: &[u8], field: u64, at: usize, value: u64) -> Program {
             p.atom_names[at] = low_byte(value);
         }
     }
+    if 14 <= field {
+        return with_days(p, field, at, low_day(value));
+    }
+    if 12 <= field {
+        return with_held(p, held_days(field, low_day(at as u64), low_day(value)));
+    }
     if 6 <= field {
-        return with_held(p, field, low_word(value));
+        return with_held(p, held_part(field, low_word(value)));
     }
     with_clause(p, field, at, low_word(value))
 }
 
 // ---- the calls that take it
 fn check(p: Program) -> Answer {
-    answers::of_checked(stable::check(p, 0), 0)
+    answers::of_checked(stable::check(p, DAY, 0), 0)
 }
 
 fn search_ends(p: Program, refused: Answer) -> bool {
     let mut list = [FREE; PLACES];
-    let a = search::search(p, ANY, &mut list);
+    let a = search::search(p, DAY, ANY, &mut list);
     let outcome = a.outcome;
     let found = answers::of_outcome(outcome, a.written as u64, a.visited);
     saying::agree(answers::SEARCH, refused, found) && saying::is_untouched(&list)
@@ -130,10 +184,17 @@ fn same_at(p: Program, q: Program, k: usize) -> bool {
         & (p.heads[k] == q.heads[k])
         & (p.bodies[k] == q.bodies[k])
         & (p.nafs[k] == q.nafs[k])
+        & (p.firsts[k] == q.firsts[k])
+        & (p.lasts[k] == q.lasts[k])
 }
 
 fn same_held(a: HeldClause, b: HeldClause) -> bool {
-    (a.in_use == b.in_use) & (a.head == b.head) & (a.body == b.body) & (a.naf == b.naf)
+    (a.in_use == b.in_use)
+        & (a.head == b.head)
+        & (a.body == b.body)
+        & (a.naf == b.naf)
+        & (a.first == b.first)
+        & (a.last == b.last)
 }
 
 // Whether a call gives the table back as it came.
@@ -145,14 +206,17 @@ fn is_given_back(source: usize, p: Program, q: Program) -> bool {
         }
         k += 1;
     }
-    let same = (p.atom_count == q.atom_count) & (p.clause_count == q.clause_count);
+    let same = (p.atom_count == q.atom_count)
+        & (p.clause_count == q.clause_count)
+        & (p.dated == q.dated);
     let held = p.held;
     let other = q.held;
     saying::is_enough(source, 1, (same & same_held(held, other)) as u64)
 }
 
+// The days are reversed, which a dated table refuses by a higher number.
 fn hold_ends(p: Program, refused: Answer) -> bool {
-    let a = hold::hold(p, 1, 0, 0);
+    let a = hold::hold(p, 1, 0, 0, 1, 0);
     let status = a.status;
     let q = a.program;
     saying::agree(answers::HOLD, refused, answers::of_held(status))
@@ -192,7 +256,7 @@ fn is_taken(p: Program) -> bool {
 
 // What keeping and letting go find: a clause, or with the place not in use nothing.
 fn held_as(field: u64) -> u64 {
-    if field <= 8 {
+    if is_in_use(field) {
         return answers::CLEARED;
     }
     answers::NOTHING_HELD
@@ -219,10 +283,10 @@ fn holds_one(p: Program) -> bool {
 
 // What a table that is not refused says of what it holds.
 fn is_held(text: &[u8], field: u64, p: Program) -> bool {
-    if field < 6 {
+    if (field < 6) | (13 < field) {
         return true;
     }
-    if 8 < field {
+    if !is_in_use(field) {
         return lets_go(text, field, p);
     }
     holds_one(p) && lets_go(text, field, p)

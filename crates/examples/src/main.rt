@@ -20,17 +20,21 @@ fn read(path: &[u8], book: &mut [u8]) -> usize
     n
 }
 
-fn print(command: Command, book: &[u8], out: &mut [u8]) {
-    let k = commands::run(book, command, &[], &[], out);
+fn print(day: u16, command: Command, book: &[u8], out: &mut [u8]) {
+    let k = commands::run(book, day, command, &[], &[], out);
     io::write_all(STDOUT_FILENO, &out[..k]);
 }
 
-// What the command prints on the book.
-fn show(path: &[u8], command: Command) {
+// What the command prints on the book on the day.
+fn show_on(path: &[u8], day: u16, command: Command) {
     let mut book = [0u8; 4097];
     let n = read(path, &mut book);
     let mut out = [0u8; MOST_BYTES];
-    print(command, &book[..n], &mut out);
+    print(day, command, &book[..n], &mut out);
+}
+
+fn show(path: &[u8], command: Command) {
+    show_on(path, 0, command);
 }
 
 // The reports of the books whose names stand here, with a space between.
@@ -48,6 +52,10 @@ fn report(names: &[u8]) {
 
 fn either(command: Command) {
     show(b"either", command);
+}
+
+fn june(day: u16, command: Command) {
+    show_on(b"june", day, command);
 }
 
 fn main() {
@@ -83,8 +91,19 @@ fn main() {
     either(Command::Check(341));
     either(Command::Check(1024));
     // a clause that is new, one that stands already, one without a literal, and the book with the first one kept, which is charged
-    either(Command::Hold(256, 4, 0));
-    either(Command::Hold(1, 0, 0));
-    either(Command::Hold(0, 0, 0));
-    either(Command::Keep(256, 4, 0));
+    either(Command::Hold(256, 4, 0, 0, 0));
+    either(Command::Hold(1, 0, 0, 0, 0));
+    either(Command::Hold(0, 0, 0, 0, 0));
+    either(Command::Keep(256, 4, 0, 0, 0));
+    // june: the price is due only from day 151 to day 180: the day before, the last day, and the day behind
+    june(150, Command::Search(NODE_LIMIT, MOST_PLACES));
+    june(180, Command::Search(NODE_LIMIT, MOST_PLACES));
+    june(181, Command::Search(NODE_LIMIT, MOST_PLACES));
+    // on day 181 a word with the price is no model of the clauses of that day: a smaller one is
+    june(181, Command::Check(17));
+    // the clause of the price with other days, and with days that are in no order
+    june(0, Command::Keep(16, 1, 4, 212, 242));
+    june(0, Command::Hold(16, 1, 4, 242, 212));
+    // early: a first day after its last: refused
+    report(b"early");
 }

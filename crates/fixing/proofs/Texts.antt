@@ -32,11 +32,11 @@ pub ended-most : (o : Outcome) (m : ℕ) → m < 2 ^ 64 → length (numbered (ou
 ended-most o m h = omega (arith, numbered-most (outcomeWord o) m h, outcome-most o)
 
 -- ---- lists of zeros, cut
-pub fixpoint-cut : (k j r q : ℕ) (p : Program) (xs : List ℕ) (m : ℕ) (ys : List ℕ) → r ≡ min k 4096 → q ≡ min j 65536
-    → Wrote (fixpointText (take r (zeros 4096)) (take q (zeros 65536)) (take q (zeros 65536)) p) xs m ys → Wrote (fixpointText (lentList k) (workSlice j) (workSlice j) p) xs m ys
-fixpoint-cut k j r q p xs m ys e f w =
-    subst (λ (l : List ℕ). Wrote (fixpointText l (workSlice j) (workSlice j) p) xs m ys) (cut-zeros r k 4096 e)
-    (subst (λ (l : List ℕ). Wrote (fixpointText (take r (zeros 4096)) l l p) xs m ys) (cut-zeros q j 65536 f) w)
+pub fixpoint-cut : (d k j r q : ℕ) (p : Program) (xs : List ℕ) (m : ℕ) (ys : List ℕ) → r ≡ min k 4096 → q ≡ min j 65536
+    → Wrote (fixpointText d (take r (zeros 4096)) (take q (zeros 65536)) (take q (zeros 65536)) p) xs m ys → Wrote (fixpointText d (lentList k) (workSlice j) (workSlice j) p) xs m ys
+fixpoint-cut d k j r q p xs m ys e f w =
+    subst (λ (l : List ℕ). Wrote (fixpointText d l (workSlice j) (workSlice j) p) xs m ys) (cut-zeros r k 4096 e)
+    (subst (λ (l : List ℕ). Wrote (fixpointText d (take r (zeros 4096)) l l p) xs m ys) (cut-zeros q j 65536 f) w)
 
 -- ---- a refusal, or the models and the line of the outcome
 no-refusal : (o : Outcome) → OneOf (0 ∷ 1 ∷ 2 ∷ []) (tagOf the-type o) → (t : List ℕ) → unlessEnded o t ≡ t
@@ -63,21 +63,21 @@ overwritten-long : (l ws : List ℕ) → length (overwrite l ws) ≡ length l
 unfolding overwrite
 overwritten-long l ws = length-append (take (length l) ws) (drop (length ws) l) ∙ omega (arith, length-take (length l) ws, length-drop (length ws) l)
 
-module _ (p : Program) (l w v : List ℕ) (a : FixpointAnswer) (ms w′ v′ : List ℕ) (s : Fixes p l w v a ms w′ v′) where
+module _ (p : Program) (d : ℕ) (l w v : List ℕ) (a : FixpointAnswer) (ms w′ v′ : List ℕ) (s : Fixes p d l w v a ms w′ v′) where
   fixed-places : a .written ≤ length l
   unfolding fixed.answerOf fixed.listed fixed.refused
-  fixed-places = rw (s .says) (go (eqb (fixed.refusal p (roomOf w v)) 0))
+  fixed-places = rw (s .says) (go (eqb (fixed.refusal p d (roomOf w v)) 0))
     where
-      go : (b : Bool) → (cond b (fixed.listed (length (fixed.found p)) (length l)) (fixed.refused (fixed.refusal p (roomOf w v)))) .written ≤ length l
-      go true = let q : min (length (fixed.found p)) (length l) ≤ length l = omega arith in q
+      go : (b : Bool) → (cond b (fixed.listed (length (fixed.found p d)) (length l)) (fixed.refused (fixed.refusal p d (roomOf w v)))) .written ≤ length l
+      go true = let q : min (length (fixed.found p d)) (length l) ≤ length l = omega arith in q
       go false = let q : 0 ≤ length l = omega arith in q
 
   same-long : length ms ≡ length l
   unfolding fixed.exitOf
-  same-long = ap length (s .lists) ∙ go (eqb (fixed.refusal p (roomOf w v)) 0)
+  same-long = ap length (s .lists) ∙ go (eqb (fixed.refusal p d (roomOf w v)) 0)
     where
-      go : (b : Bool) → length (cond b (overwrite l (fixed.found p)) l) ≡ length l
-      go true = overwritten-long l (fixed.found p)
+      go : (b : Bool) → length (cond b (overwrite l (fixed.found p d)) l) ≡ length l
+      go true = overwritten-long l (fixed.found p d)
       go false = refl
 
   pub fixed-here : a .written ≤ length ms
@@ -89,6 +89,6 @@ module _ (p : Program) (l w v : List ℕ) (a : FixpointAnswer) (ms w′ v′ : L
   pub fixed-ready : (xs : List ℕ) → ReadyToList p l xs → ReadyToList p (take (a .written) ms) xs
   fixed-ready xs q = let h = q .short in record { ready = q .ready; short = omega (arith, fixed-places, fixed-long) }
 
-  pub fixpoint-wrote : (xs : List ℕ) (r : ℕ) (ys : List ℕ) → Wrote (fixedText p (take (a .written) ms) (a .outcome) (a .written)) xs r ys → Wrote (fixpointText l w v p) xs r ys
+  pub fixpoint-wrote : (xs : List ℕ) (r : ℕ) (ys : List ℕ) → Wrote (fixedText p (take (a .written) ms) (a .outcome) (a .written)) xs r ys → Wrote (fixpointText d l w v p) xs r ys
   unfolding fixpointText
   fixpoint-wrote xs r ys h = rw (← s .says, ← s .lists) h

@@ -1,4 +1,4 @@
--- What `fixpoint` says of a table, as a definition of the table and of the numbers behind the word. Assumes nothing.
+-- What `fixpoint` says of a table, as a definition of the table, of the day and of the numbers behind the word. Assumes nothing.
 use mathlib.Core.List.{List, _++_}
 use Prim.Native.Nat.{ℕ, min}
 use lib.ListN.{take, replicate}
@@ -23,8 +23,8 @@ workSlice capacity = replicate (min capacity 65536) 0
 unfoldable pub fixedText : Program → List ℕ → Outcome → ℕ → List ℕ
 fixedText p ws o m = unlessEnded o (listing p ws ++ numbered (outcomeWord o) m)
 
--- of a fixpoint with the lent list l and the working slices w and v
-unfoldable pub fixpointText : List ℕ → List ℕ → List ℕ → Program → List ℕ
-fixpointText l w v p =
-    let a = fixed.answerOf p l w v in
-    fixedText p (take (a .written) (fixed.exitOf p l w v)) (a .outcome) (a .written)
+-- of a fixpoint on the day d with the lent list l and the working slices w and v
+unfoldable pub fixpointText : ℕ → List ℕ → List ℕ → List ℕ → Program → List ℕ
+fixpointText d l w v p =
+    let a = fixed.answerOf p d l w v in
+    fixedText p (take (a .written) (fixed.exitOf p d l w v)) (a .outcome) (a .written)

@@ -34,32 +34,40 @@ fn put_fixed(p: Program, words: &[u32], outcome: Outcome, m: usize, out: &mut [u
     }
 }
 
-// A fixpoint of `p` in the lent slices.
+// A fixpoint of `p` on a day in the lent slices.
 fn put_steps(
     p: Program,
+    day: u16,
     models: &mut [u32],
     first: &mut [u64],
     second: &mut [u64],
     out: &mut [u8],
 ) -> usize
     requires { ⌜ ReadyToList p (now models) (now out) ⌝ }
-    ensures { λ r. ⌜ Wrote (fixpointText (now (models .entry)) (now (first .entry)) (now (second .entry)) p) (now (out .entry)) r (now (out .exit)) ⌝ }
+    ensures { λ r. ⌜ Wrote (fixpointText day (now (models .entry)) (now (first .entry)) (now (second .entry)) p) (now (out .entry)) r (now (out .exit)) ⌝ }
 {
-    let a = fixpoint::fixpoint(p, models, first, second);
+    let a = fixpoint::fixpoint(p, day, models, first, second);
     let outcome = a.outcome;
     let m = a.written;
     put_fixed(p, &models[..m], outcome, m, out)
 }
 
-// A fixpoint in a list of so many places and working slices of so many words, up to `MOST_PLACES` and `MOST_WORDS`.
-pub fn put_fixpoint(p: Program, places: usize, capacity: usize, out: &mut [u8]) -> usize
+// A fixpoint on a day in a list of so many places and working slices of so many words, up to `MOST_PLACES` and `MOST_WORDS`.
+pub fn put_fixpoint(p: Program, day: u16, places: usize, capacity: usize, out: &mut [u8]) -> usize
     requires { ⌜ Ready p (now out) ⌝ }
-    ensures { λ r. ⌜ Wrote (fixpointText (lentList places) (workSlice capacity) (workSlice capacity) p) (now (out .entry)) r (now (out .exit)) ⌝ }
+    ensures { λ r. ⌜ Wrote (fixpointText day (lentList places) (workSlice capacity) (workSlice capacity) p) (now (out .entry)) r (now (out .exit)) ⌝ }
 {
     let n = lists::least(places, MOST_PLACES);
     let c = lists::least(capacity, MOST_WORDS);
     let mut models = [0u32; MOST_PLACES];
     let mut first = [0u64; MOST_WORDS];
     let mut second = [0u64; MOST_WORDS];
-    put_steps(p, &mut models[..n], &mut first[..c], &mut second[..c], out)
+    put_steps(
+        p,
+        day,
+        &mut models[..n],
+        &mut first[..c],
+        &mut second[..c],
+        out,
+    )
 }

@@ -2,7 +2,7 @@
 use mathlib.Core.Path.{_≡_, refl, sym, ap, ap₂, _∙_, subst}
 use mathlib.Core.Bool.{Bool, true, false, cond, not}
 use mathlib.Core.List.{List}
-use Prim.Native.Nat.{ℕ, _+_, _≤_, _<_, min}
+use Prim.Native.Nat.{ℕ, _+_, _*_, _≤_, _<_, min}
 use native.Mathlib.Omega.{arith}
 use borrow.Author.Needs.{needs}
 use borrow.Author.Tests.{le-leb, lt-leb, lt-ltb, le-ltb, not-true, not-false}
@@ -10,12 +10,15 @@ use lib.Dec.{ltb}
 use lib.ListN.{length, take, length-replicate}
 use lib.Seq.{length-take-le}
 use Rattle.sets.specs.Lists.{Each, upFrom, tabulate}
-use Rattle.sets.proofs.Lists.{length-tabulate}
+use Rattle.sets.proofs.Lists.{length-tabulate, every-each}
 use Rattle.program.specs.declared.Program.{Program}
-use Rattle.program.specs.Clauses.{Clause, Below, clauseAt, rows, clauses}
-use Rattle.program.specs.Valid.{valid}
+use Rattle.program.specs.Clauses.{Clause, Below, clauseAt, standing}
+use Rattle.program.specs.Days.{clauses, RowsOfDay}
+use Rattle.program.specs.Only.{onlyOf}
+use Rattle.program.specs.Valid.{isClause, valid}
 use Rattle.program.specs.Refusals.{lowest}
-use Rattle.program.proofs.Validity.{valid-below}
+use Rattle.program.proofs.Validity.{valid-clauses, clause-below}
+use Rattle.program.proofs.Days.{DayTable, day-table}
 use Rattle.operator.specs.Operator.{WordRule, ruleAt}
 use Rattle.stages.specs.Run.{crowded}
 use Rattle.stages.specs.Minimal.{minimalModels, Minimals}
@@ -23,12 +26,12 @@ use Rattle.transform.specs.Transform.{kappaFrom, members}
 use Rattle.emission.specs.Emit.{Emits, Places}
 use Rattle.rewriting.specs.Rewriting.{ClausesOver}
 use Rattle.vocabulary.specs.Vocabulary.{literalsOf, vocabulary}
-use Rattle.vocabulary.proofs.Counting.{names-few, clauses-few, column-fits}
+use Rattle.vocabulary.proofs.Counting.{names-few, clauses-few, column-fits, of-day}
 use Rattle.transform.specs.Listing.{partsOf, listing}
 use Rattle.program.specs.declared.Outcome.the-variants.{Complete, Full, Refused}
 use Rattle.fixpoint.specs.declared.FixpointAnswer.{FixpointAnswer}
 use Rattle.parts.specs.Overwriting.{overwrite, Overwrites}
-use Rattle.fixpoint.specs.Answer.{listed, refused, runAnswer, runExit, Answered, transformOf, found, roomOf, refusal, answerOf}
+use Rattle.fixpoint.specs.Answer.{listed, refused, runAnswer, runExit, Answered, kappa, transformOf, found, roomOf, refusal, answerOf}
 use Rattle.fixpoint.specs.Answer.{exitOf, Fixes}
 use Rattle.fixpoint.proofs.Size.{program-short}
 
@@ -92,32 +95,33 @@ module _ (xs ys : List ℕ) (s : ℕ) (e : s ≡ min (length xs) (length ys)) wh
   pub evened : (m : ℕ) (Q : List WordRule) (ms out : List ℕ) (r : FixpointAnswer) → Answered m Q (length (take s xs)) ms out r → Answered m Q (min (length xs) (length ys)) ms out r
   evened m Q ms out r d = subst (λ (k : ℕ). Answered m Q k ms out r) (first-part ∙ e) d
 
--- ---- over a valid table
+-- ---- over a valid table all of whose clauses count
 -- its clauses, as they stand in its three columns
 abbrev columns : Program → List Clause
 columns p = tabulate (clauseAt (p .heads) (p .bodies) (p .nafs)) (p .«clause_count»)
 
 module _ (p : Program) (v : valid p ≡ true) where
+  columns-below : Each (Below (literalsOf p)) (columns p)
+  columns-below c i = clause-below (p .«atom_count») c (every-each (isClause (p .«atom_count»)) (columns p) (valid-clauses p v .ruled) c i)
+
   module _ (m : ℕ) (e : m ≡ literalsOf p) where
     pub table-over : length (p .heads) ≡ 64 → length (p .bodies) ≡ 64 → length (p .nafs) ≡ 64 → ClausesOver m (p .heads) (p .bodies) (p .nafs) (p .«clause_count»)
-    unfolding clauses rows
     table-over hs bs ns = record {
       literals = omega (arith, e, names-few p v);
       few = clauses-few p v;
       heads = column-fits p v (p .heads) hs;
       bodies = column-fits p v (p .bodies) bs;
       nafs = column-fits p v (p .nafs) ns;
-      below = subst (λ k. Each (Below k) (columns p)) (sym e) (valid-below p v);
+      below = subst (λ k. Each (Below k) (columns p)) (sym e) columns-below;
     }
 
-    module _ (w : vocabulary p ≤ 64) where
+    module _ (w : members (literalsOf p) (standing p) ≤ 64) where
       pub table-fits : members m (columns p) ≤ 64
-      unfolding vocabulary clauses rows
+      unfolding standing
       table-fits = subst (λ k. members k (columns p) ≤ 64) (sym e) w
 
       short : length (kappaFrom m (m + m) (columns p)) ≤ 1120
-      unfolding clauses rows
-      short = program-short m _ (subst (λ k. Each (Below k) (columns p)) (sym e) (valid-below p v))
+      short = program-short m _ (subst (λ k. Each (Below k) (columns p)) (sym e) columns-below)
           (let l = length-tabulate (clauseAt (p .heads) (p .bodies) (p .nafs)) (p .«clause_count») in omega (arith, clauses-few p v)) table-fits
 
       pub table-room : (xs ys : List ℕ) → length xs ≡ 1120 → length ys ≡ 1120 → Places (kappaFrom m (m + m) (columns p)) xs ys 0
@@ -132,45 +136,71 @@ module _ (p : Program) (v : valid p ≡ true) where
 
     pub table-answered : (xs ys xs′ ys′ : List ℕ) (n room : ℕ) (ms out : List ℕ) (r : FixpointAnswer)
         → Emits (kappaFrom m (m + m) (columns p)) xs ys 0 xs′ ys′ n
-        → Answered m (tabulate (ruleAt xs′ ys′) n) room ms out r → Answered (literalsOf p) (transformOf p) room ms out r
-    unfolding transformOf clauses rows tabulate upFrom
-    table-answered xs ys xs′ ys′ n room ms out r g d = subst (λ k. Answered k (kappaFrom k (k + k) (columns p)) room ms out r) e
+        → Answered m (tabulate (ruleAt xs′ ys′) n) room ms out r → Answered (literalsOf p) (kappa (literalsOf p) (standing p)) room ms out r
+    unfolding standing tabulate upFrom
+    table-answered xs ys xs′ ys′ n room ms out r g d = subst (λ k. Answered k (kappa k (columns p)) room ms out r) e
         (subst (λ (Q : List WordRule). Answered m Q room ms out r) (g .rules) d)
 
--- ---- over any table
+-- ---- over any table, on a day
 pub is-table : (p : Program) (b : Bool) → b ≡ valid p → not b ≡ false → valid p ≡ true
 is-table p b e h = sym e ∙ not-false b h
 
-pub few-members : (p : Program) (w : ℕ) → w ≡ vocabulary p → w ≤ 64 → vocabulary p ≤ 64
-few-members p w e h = omega arith
+-- the table of the day's clauses
+module _ (p : Program) (d : ℕ) (b : Bool) (is : b ≡ valid p) (s : ℕ) (gathered : RowsOfDay p d s) (q : Program) (only : q ≡ onlyOf p s) where
+  the-day : not b ≡ false → DayTable p d q
+  the-day h = rw only (day-table p d s (is-table p b is h) gathered)
 
-module _ (p : Program) (l₀ w₀ v₀ w v : List ℕ) (b : Bool) (is : b ≡ valid p) where
-  pub no-table : (r : FixpointAnswer) → not b ≡ true → r ≡ refused 9 → length w ≡ length w₀ → length v ≡ length v₀ → Fixes p l₀ w₀ v₀ r l₀ w v
+  pub day-valid : not b ≡ false → valid q ≡ true
+  day-valid h = the-day h .is-valid
+
+pub few-members : (q : Program) (n : ℕ) → n ≡ members (literalsOf q) (standing q) → n ≤ 64 → members (literalsOf q) (standing q) ≤ 64
+few-members q n e h = omega arith
+
+module _ (p : Program) (d : ℕ) (l₀ w₀ v₀ w v : List ℕ) (b : Bool) (is : b ≡ valid p) where
+  pub no-table : (r : FixpointAnswer) → not b ≡ true → r ≡ refused 9 → length w ≡ length w₀ → length v ≡ length v₀ → Fixes p d l₀ w₀ v₀ r l₀ w v
   unfolding answerOf exitOf refusal lowest
   no-table r h q lw lv = let f : valid p ≡ false = sym is ∙ not-true b h in record { says = q ∙ rw f; lists = rw f; first-length = lw; second-length = lv }
 
-  module _ (n : ℕ) (counts : n ≡ vocabulary p) where
-    pub too-many : (r : FixpointAnswer) → not b ≡ false → 64 < n → r ≡ refused 11 → length w ≡ length w₀ → length v ≡ length v₀ → Fixes p l₀ w₀ v₀ r l₀ w v
-    unfolding answerOf exitOf refusal lowest
-    too-many r h m q lw lv =
-        let t = is-table p b is h in
-        let f : ltb 64 (vocabulary p) ≡ true = lt-ltb 64 (vocabulary p) (omega (arith, counts)) in
-        record { says = q ∙ rw (t, f); lists = rw (t, f); first-length = lw; second-length = lv }
+  module _ (s : ℕ) (gathered : RowsOfDay p d s) (q : Program) (only : q ≡ onlyOf p s) (n : ℕ) (counts : n ≡ members (literalsOf q) (standing q)) where
+    counted : not b ≡ false → n ≡ vocabulary p d
+    counted h = counts ∙ of-day p d q (the-day p d b is s gathered q only h)
 
-    pub fixed : (r : FixpointAnswer) (l : List ℕ) → Answered (literalsOf p) (transformOf p) (roomOf w₀ v₀) l₀ l r → not b ≡ false → n ≤ 64
-        → length w ≡ length w₀ → length v ≡ length v₀ → Fixes p l₀ w₀ v₀ r l w v
+    pub too-many : (r : FixpointAnswer) → not b ≡ false → 64 < n → r ≡ refused 11 → length w ≡ length w₀ → length v ≡ length v₀ → Fixes p d l₀ w₀ v₀ r l₀ w v
+    unfolding answerOf exitOf refusal lowest
+    too-many r h m e lw lv =
+        let t = is-table p b is h in
+        let f : ltb 64 (vocabulary p d) ≡ true = lt-ltb 64 (vocabulary p d) (omega (arith, counted h)) in
+        record { says = e ∙ rw (t, f); lists = rw (t, f); first-length = lw; second-length = lv }
+
+    -- what is listed of the day's table is listed of the clauses of the day
+    of-the-day : (r : FixpointAnswer) (l : List ℕ) → not b ≡ false → Answered (literalsOf q) (kappa (literalsOf q) (standing q)) (roomOf w₀ v₀) l₀ l r
+        → Answered (literalsOf p) (transformOf p d) (roomOf w₀ v₀) l₀ l r
+    unfolding transformOf
+    of-the-day r l h g =
+        let t = the-day p d b is s gathered q only h in
+        subst (λ (k : ℕ). Answered (2 * k) (kappa (2 * k) (clauses p d)) (roomOf w₀ v₀) l₀ l r) (t .atoms)
+        (subst (λ (C : List Clause). Answered (literalsOf q) (kappa (literalsOf q) C) (roomOf w₀ v₀) l₀ l r) (t .standing-are) g)
+
+    pub fixed : (r : FixpointAnswer) (l : List ℕ) → Answered (literalsOf q) (kappa (literalsOf q) (standing q)) (roomOf w₀ v₀) l₀ l r
+        → not b ≡ false → n ≤ 64 → length w ≡ length w₀ → length v ≡ length v₀ → Fixes p d l₀ w₀ v₀ r l w v
     unfolding answerOf exitOf refusal lowest found runAnswer runExit
-    fixed r l g h m lw lv = go (crowded (transformOf p) (roomOf w₀ v₀)) refl
+    fixed r l a h m lw lv = go (crowded (transformOf p d) (roomOf w₀ v₀)) refl
       where
         t : valid p ≡ true
         t = is-table p b is h
 
-        f : ltb 64 (vocabulary p) ≡ false
-        f = le-ltb 64 (vocabulary p) (omega (arith, counts))
+        f : ltb 64 (vocabulary p d) ≡ false
+        f = le-ltb 64 (vocabulary p d) (omega (arith, counted h))
 
-        go : (c : Bool) → crowded (transformOf p) (roomOf w₀ v₀) ≡ c → Fixes p l₀ w₀ v₀ r l w v
+        g : Answered (literalsOf p) (transformOf p d) (roomOf w₀ v₀) l₀ l r
+        g = of-the-day r l h a
+
+        go : (c : Bool) → crowded (transformOf p d) (roomOf w₀ v₀) ≡ c → Fixes p d l₀ w₀ v₀ r l w v
         go true c = record { says = rw c at (g .answer) ∙ rw (t, f, c); lists = rw c at (g .exit) ∙ rw (t, f, c); first-length = lw; second-length = lv }
         go false c = record { says = rw c at (g .answer) ∙ rw (t, f, c); lists = rw c at (g .exit) ∙ rw (t, f, c); first-length = lw; second-length = lv }
 
 -- what `search` is handed where the transform of a table is put out
 pub ruleset tables = (names-few, clauses-few, column-fits, table-over, table-fits, table-room, heads-there, bodies-there, length-replicate, table-answered, needs)
+
+-- and for the table that came and the day's table, both of them valid
+pub ruleset valid-tables = (is-table, day-valid, few-members)

@@ -1,4 +1,4 @@
--- Where the run of a table's stages ends: at the first stage equal to the one before, and a stage equal to its successor is reached at stage W + 1 at the latest. Assumes nothing.
+-- Where the run of a table's stages on a day ends: at the first stage equal to the one before, and a stage equal to its successor is reached at stage W + 1 at the latest. Assumes nothing.
 use mathlib.Core.Path.{_≡_, sym, subst}
 use mathlib.Core.Bool.{true}
 use mathlib.Core.List.{List}
@@ -6,7 +6,8 @@ use Prim.Native.Nat.{ℕ, _+_, _≤_}
 use native.Mathlib.Omega.{arith}
 use Rattle.sets.specs.Lists.{Each}
 use Rattle.program.specs.declared.Program.{Program}
-use Rattle.program.specs.Clauses.{Clause, Below, clauses}
+use Rattle.program.specs.Clauses.{Clause, Below}
+use Rattle.program.specs.Days.{clauses}
 use Rattle.program.specs.Valid.{valid}
 use Rattle.program.proofs.Validity.{valid-names, valid-below}
 use Rattle.epistemic.proofs.Masks.{taggedFrom, small-tagged}
@@ -36,7 +37,7 @@ module _ (m : ℕ) (C : List Clause) (small : m ≤ 64) (under : Each (Below m) 
   clauses-end = subst (λ (Q : List WordRule). EndsRun Q (members m C) (ending Q)) (sym (kappa-is m C small under))
       (subst (λ (W : ℕ). EndsRun (transformed m (taggedFrom m 0 C)) W (ending (transformed m (taggedFrom m 0 C)))) (members-are m C small under) theory-ends)
 
--- the run of a valid table whose W is at most 64
-pub ends-run : (p : Program) → valid p ≡ true → vocabulary p ≤ 64 → EndsRun (transformOf p) (vocabulary p) (ending (transformOf p))
+-- the run of a valid table on a day whose W is at most 64
+pub ends-run : (p : Program) (d : ℕ) → valid p ≡ true → vocabulary p d ≤ 64 → EndsRun (transformOf p d) (vocabulary p d) (ending (transformOf p d))
 unfolding transformOf vocabulary
-ends-run p v h = let n = valid-names p v .few in clauses-end (literalsOf p) (clauses p) (omega arith) (valid-below p v) h
+ends-run p d v h = let n = valid-names p v .few in clauses-end (literalsOf p) (clauses p d) (omega arith) (valid-below p d v) h

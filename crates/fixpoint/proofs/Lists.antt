@@ -9,7 +9,8 @@ use Rattle.sets.specs.Lists.{_∈_, Each, Rising, sift, below}
 use Rattle.sets.proofs.Lists.{sift-in, sift-out, below-in, in-below}
 use Rattle.sets.proofs.Rising.{rising-ext, sift-rising, below-rising}
 use Rattle.program.specs.declared.Program.{Program}
-use Rattle.program.specs.Clauses.{Clause, Below, clauses}
+use Rattle.program.specs.Clauses.{Clause, Below}
+use Rattle.program.specs.Days.{clauses}
 use Rattle.program.specs.Valid.{valid}
 use Rattle.program.proofs.Validity.{valid-names, valid-below}
 use Rattle.semantics.specs.Interpretations.{isStable, models}
@@ -45,7 +46,7 @@ module _ (m : ℕ) (C : List Clause) (small : m ≤ 64) (under : Each (Below m) 
       (λ I i. let s = list-is-stable I .0 i in sift-in (isStable C) (below (2 ^ m)) I (below-in (2 ^ m) I (s .0)) (word-stable C I (s .1)))
       (λ I i. let s = sift-out (isStable C) (below (2 ^ m)) I i in list-is-stable I .1 (in-below (2 ^ m) I (s .0), stable-word C I (s .1)))
 
--- what the fixpoint of a valid table finds is its p-stable models, rising, each once
-pub found-models : (p : Program) → valid p ≡ true → vocabulary p ≤ 64 → found p ≡ models (p .«atom_count») (clauses p)
+-- what the fixpoint of a valid table finds on a day is the p-stable models of the day's clauses, rising, each once
+pub found-models : (p : Program) (d : ℕ) → valid p ≡ true → vocabulary p d ≤ 64 → found p d ≡ models (p .«atom_count») (clauses p d)
 unfolding found transformOf vocabulary models
-found-models p v h = let n = valid-names p v .few in list-models (literalsOf p) (clauses p) (omega arith) (valid-below p v) h
+found-models p d v h = let n = valid-names p v .few in list-models (literalsOf p) (clauses p d) (omega arith) (valid-below p d v) h

@@ -4,10 +4,12 @@ ghost use mathlib.Core.Bool.{true};
 ghost use Prim.Native.Nat.{_≤_};
 ghost use lib.ListN.{length};
 ghost use Rattle.sets.specs.Lists.{tabulate};
+ghost use Rattle.program.specs.Clauses.{standing};
 ghost use Rattle.program.specs.Valid.{valid};
 ghost use Rattle.operator.specs.Operator.{ruleAt};
-ghost use Rattle.vocabulary.specs.Vocabulary.{literalsOf, vocabulary};
-ghost use Rattle.fixpoint.specs.Answer.{listed, refused, Answered, transformOf, roomOf, Fixes};
+ghost use Rattle.transform.specs.Transform.{members};
+ghost use Rattle.vocabulary.specs.Vocabulary.{literalsOf};
+ghost use Rattle.fixpoint.specs.Answer.{listed, refused, Answered, kappa, roomOf, Fixes};
 use program::Outcome;
 use program::Program;
 
@@ -95,15 +97,15 @@ fn list_models<'a>(
     )
 }
 
-// The fixpoint of a valid table whose vocabulary fits a word.
+// The fixpoint of a valid table all of whose clauses count and whose vocabulary fits a word.
 fn fix_table(
     p: Program,
     models: &mut [u32],
     first: &mut [u64],
     second: &mut [u64],
 ) -> FixpointAnswer
-    requires { ⌜ (valid p ≡ true) × (vocabulary p ≤ 64) ⌝ }
-    ensures { λ r. ⌜ Answered (literalsOf p) (transformOf p) (roomOf (now (first .entry)) (now (second .entry))) (now (models .entry)) (now (models .exit)) r ⌝ }
+    requires { ⌜ (valid p ≡ true) × (members (literalsOf p) (standing p) ≤ 64) ⌝ }
+    ensures { λ r. ⌜ Answered (literalsOf p) (kappa (literalsOf p) (standing p)) (roomOf (now (first .entry)) (now (second .entry))) (now (models .entry)) (now (models .exit)) r ⌝ }
 {
     let m = vocabulary::literal_count(p.atom_count);
     let mut hs = [0u64; MOST_RULES];
@@ -120,20 +122,23 @@ fn fix_table(
     list_models(&hs, &bs, n, m, models, first, second)
 }
 
-// The p-stable models by the fixpoint of the epistemic transform, with a lent list and two lent working slices.
+// The p-stable models of the clauses of a day by the fixpoint of their epistemic transform, with a lent list and two lent working slices.
 pub fn fixpoint(
     p: Program,
+    day: u16,
     models: &mut [u32],
     first: &mut [u64],
     second: &mut [u64],
 ) -> FixpointAnswer
-    ensures { λ r. ⌜ Fixes p (now (models .entry)) (now (first .entry)) (now (second .entry)) r (now (models .exit)) (now (first .exit)) (now (second .exit)) ⌝ }
+    ensures { λ r. ⌜ Fixes p day (now (models .entry)) (now (first .entry)) (now (second .entry)) r (now (models .exit)) (now (first .exit)) (now (second .exit)) ⌝ }
 {
     if !validity::is_valid(p) {
         return refuse(program::INVALID_PROGRAM);
     }
-    if MOST_MEMBERS < vocabulary::member_count(p) {
+    let rows = program::day_rows(p, day);
+    let q = program::only(p, rows);
+    if MOST_MEMBERS < vocabulary::member_count(q) {
         return refuse(program::TOO_MANY_MEMBERS);
     }
-    fix_table(p, models, first, second)
+    fix_table(q, models, first, second)
 }

@@ -8,7 +8,7 @@ use lib.ListN.{set}
 use Rattle.program.specs.declared.Program.{Program}
 use Rattle.program.specs.declared.Verdict.{Verdict}
 use Rattle.program.specs.declared.Verdict.the-variants as verdict
-use Rattle.program.specs.Clauses.{Clause, rows}
+use Rattle.program.specs.Clauses.{Row, rows}
 use Rattle.program.specs.Held.{nothingHeld, released}
 use Rattle.program.specs.Names.{namesOf}
 use Rattle.program.specs.Refusals.{lowest}
@@ -17,7 +17,7 @@ use Rattle.hold.specs.declared.ClearStatus.{ClearStatus}
 use Rattle.hold.specs.declared.ClearStatus.the-variants.{Cleared, NothingHeld, Refused}
 use Rattle.hold.specs.declared.ClearAnswer.{ClearAnswer}
 
--- "keeps it as the last clause": in the first place behind those that stand, and nothing is held then
+-- "keeps it as the last clause": with its days in the first place behind those that stand, and nothing is held then
 unfoldable pub kept : Program → Program
 kept p = record {
   «atom_count» = p .«atom_count»;
@@ -26,6 +26,9 @@ kept p = record {
   heads = set (p .heads) (p .«clause_count») (p .held .head);
   bodies = set (p .bodies) (p .«clause_count») (p .held .body);
   nafs = set (p .nafs) (p .«clause_count») (p .held .naf);
+  dated = p .dated;
+  firsts = set (p .firsts) (p .«clause_count») (p .held .first);
+  lasts = set (p .lasts) (p .«clause_count») (p .held .last);
   held = nothingHeld;
 }
 
@@ -54,12 +57,14 @@ unfoldable pub releaseOf : Program → ClearAnswer
 unfolding clearedOf
 releaseOf p = clearedOf p (released p)
 
--- "A second call keeps it as the last clause": what keep gives where c was held on the table p has the same names, the clauses that stood and c behind them, and nothing held
-pub record KeptBehind (p : Program) (c : Clause) (a : ClearAnswer) : Type 0 where
+-- "A second call keeps it as the last clause": what keep gives where the row r was held on the table p has the same names, is dated where that was,
+-- has the rows that stood and r behind them, and nothing held
+pub record KeptBehind (p : Program) (r : Row) (a : ClearAnswer) : Type 0 where
   pub status : a .status ≡ Cleared
   pub atoms : a .program .«atom_count» ≡ p .«atom_count»
   pub names : namesOf (a .program) ≡ namesOf p
-  pub clauses : rows (a .program) ≡ rows p ++ (c ∷ [])
+  pub dating : a .program .dated ≡ p .dated
+  pub all-rows : rows (a .program) ≡ rows p ++ (r ∷ [])
   pub nothing : a .program .held ≡ nothingHeld
 
 -- the verdict of each answer

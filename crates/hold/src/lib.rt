@@ -1,10 +1,9 @@
-// Document 02, U5: a clause is held in a separate place of the table, where it does not count, and is then kept as the last clause or let go.
+// Document 02, U5: a clause is held in a separate place of the table, where it does not count, and is then kept as the last clause or let go; U13: with its days, on a dated table.
 ghost use mathlib.Core.Path.{_≡_};
 ghost use Prim.Native.Nat.{_≤_, _<_};
-ghost use Rattle.sets.specs.Lists.{tabulate};
-ghost use Rattle.program.specs.Clauses.{clauseOf, clauseAt, isEqual};
-ghost use Rattle.program.specs.Held.{holding};
-ghost use Rattle.hold.specs.Holding.{stands, holdRefusal, holdOf};
+ghost use Rattle.program.specs.Clauses.{clauseOf, rowAt, rows, isEqualRow};
+ghost use Rattle.program.specs.Held.{heldRow, inPlace, holding};
+ghost use Rattle.hold.specs.Holding.{dayHeld, heldAs, stands, holdRefusal, holdOf};
 ghost use Rattle.hold.specs.Clearing.{kept, clearing, keepOf, releaseOf};
 use program::HeldClause;
 use program::Program;
@@ -34,34 +33,26 @@ pub struct ClearAnswer {
 }
 
 // ---- equal clauses
-fn is_equal(
-    head: u32,
-    body: u32,
-    naf: u32,
-    other_head: u32,
-    other_body: u32,
-    other_naf: u32,
-) -> bool
-    ensures { λ r. ⌜ r ≡ isEqual (clauseOf head body naf) (clauseOf «other_head» «other_body» «other_naf») ⌝ }
+// Whether the row `k` of the table has this clause, and these days.
+fn is_equal(p: Program, k: usize, held: HeldClause) -> bool
+    requires { ⌜ k < 64 ⌝ }
+    ensures { λ r. ⌜ r ≡ isEqualRow (heldRow held) (rowAt p k) ⌝ }
 {
-    (head == other_head) & (body == other_body) & (naf == other_naf)
+    (held.head == p.heads[k])
+        & (held.body == p.bodies[k])
+        & (held.naf == p.nafs[k])
+        & (held.first == p.firsts[k])
+        & (held.last == p.lasts[k])
 }
 
-fn equal_stands<'a>(
-    heads: &'a [u32; program::MOST_CLAUSES],
-    bodies: &'a [u32; program::MOST_CLAUSES],
-    nafs: &'a [u32; program::MOST_CLAUSES],
-    count: usize,
-    head: u32,
-    body: u32,
-    naf: u32,
-) -> bool
-    requires { ⌜ count ≤ 64 ⌝ }
-    ensures { λ r. ⌜ r ≡ stands (clauseOf head body naf) (tabulate (clauseAt (now (heads .entry)) (now (bodies .entry)) (now (nafs .entry))) count) ⌝ }
+fn equal_stands(p: Program, held: HeldClause) -> bool
+    requires { ⌜ p .«clause_count» ≤ 64 ⌝ }
+    ensures { λ r. ⌜ r ≡ stands (heldRow held) (rows p) ⌝ }
 {
+    let count = p.clause_count;
     let mut k: usize = 0;
     while k < count {
-        if is_equal(head, body, naf, heads[k], bodies[k], nafs[k]) {
+        if is_equal(p, k, held) {
             return true;
         }
         k += 1;
@@ -71,8 +62,8 @@ fn equal_stands<'a>(
 
 // ---- holding
 // The lowest refusal that applies, 0 for none.
-fn hold_refusal(p: Program, head: u32, body: u32, naf: u32) -> u8
-    ensures { λ r. ⌜ r ≡ holdRefusal p (clauseOf head body naf) ⌝ }
+fn hold_refusal(p: Program, head: u32, body: u32, naf: u32, first: u16, last: u16) -> u8
+    ensures { λ r. ⌜ r ≡ holdRefusal p (clauseOf head body naf) first last ⌝ }
 {
     if !validity::is_valid(p) {
         return program::INVALID_PROGRAM;
@@ -88,7 +79,30 @@ fn hold_refusal(p: Program, head: u32, body: u32, naf: u32) -> u8
     if p.clause_count == program::MOST_CLAUSES {
         return program::NO_PLACE_LEFT;
     }
+    if p.dated & (last < first) {
+        return program::DAYS_REVERSED;
+    }
     0
+}
+
+fn day_held(p: Program, day: u16) -> u16
+    ensures { λ r. ⌜ r ≡ dayHeld p day ⌝ }
+{
+    if p.dated { day } else { 0 }
+}
+
+// The separate place with the clause in it, and with its days on a dated table.
+fn held_as(p: Program, head: u32, body: u32, naf: u32, first: u16, last: u16) -> HeldClause
+    ensures { λ r. ⌜ r ≡ inPlace (heldAs p (clauseOf head body naf) first last) ⌝ }
+{
+    HeldClause {
+        in_use: true,
+        head: head,
+        body: body,
+        naf: naf,
+        first: day_held(p, first),
+        last: day_held(p, last),
+    }
 }
 
 fn with_held(p: Program, held: HeldClause) -> Program
@@ -100,16 +114,11 @@ fn with_held(p: Program, held: HeldClause) -> Program
 }
 
 // Holds the clause, and says whether an equal one stands already; a refused call gives the table back as it came.
-pub fn hold(p: Program, head: u32, body: u32, naf: u32) -> HoldAnswer
-    ensures { λ r. ⌜ r ≡ holdOf p (clauseOf head body naf) ⌝ }
+pub fn hold(p: Program, head: u32, body: u32, naf: u32, first: u16, last: u16) -> HoldAnswer
+    ensures { λ r. ⌜ r ≡ holdOf p (clauseOf head body naf) first last ⌝ }
 {
-    let refusal = hold_refusal(p, head, body, naf);
-    let held = HeldClause {
-        in_use: true,
-        head: head,
-        body: body,
-        naf: naf,
-    };
+    let refusal = hold_refusal(p, head, body, naf, first, last);
+    let held = held_as(p, head, body, naf, first, last);
     let q = with_held(p, held);
     if refusal != 0 {
         return HoldAnswer {
@@ -117,8 +126,7 @@ pub fn hold(p: Program, head: u32, body: u32, naf: u32) -> HoldAnswer
             program: p,
         };
     }
-    let count = p.clause_count;
-    if equal_stands(&p.heads, &p.bodies, &p.nafs, count, head, body, naf) {
+    if equal_stands(p, held) {
         return HoldAnswer {
             status: HoldStatus::Equal,
             program: q,
@@ -152,6 +160,8 @@ fn with_last(p: Program) -> Program
     q.heads[k] = held.head;
     q.bodies[k] = held.body;
     q.nafs[k] = held.naf;
+    q.firsts[k] = held.first;
+    q.lasts[k] = held.last;
     q.clause_count = k + 1;
     q.held = nothing;
     q

@@ -9,11 +9,19 @@ use hold::HoldStatus;
 use program::Program;
 
 // Whether an equal clause stands already.
-pub fn put_hold(p: Program, head: u32, body: u32, naf: u32, out: &mut [u8]) -> usize
+pub fn put_hold(
+    p: Program,
+    head: u32,
+    body: u32,
+    naf: u32,
+    first: u16,
+    last: u16,
+    out: &mut [u8],
+) -> usize
     requires { ⌜ Ready p (now out) ⌝ }
-    ensures { λ r. ⌜ Wrote (holdText (clauseOf head body naf) p) (now (out .entry)) r (now (out .exit)) ⌝ }
+    ensures { λ r. ⌜ Wrote (holdText (clauseOf head body naf) first last p) (now (out .entry)) r (now (out .exit)) ⌝ }
 {
-    let answer = hold::hold(p, head, body, naf);
+    let answer = hold::hold(p, head, body, naf, first, last);
     let status = answer.status;
     match status {
         HoldStatus::New => lists::put_bytes(out, b"new\n"),
@@ -33,11 +41,19 @@ fn put_kept(p: Program, out: &mut [u8]) -> usize
 }
 
 // The book with the clause held and then kept.
-pub fn put_keep(p: Program, head: u32, body: u32, naf: u32, out: &mut [u8]) -> usize
+pub fn put_keep(
+    p: Program,
+    head: u32,
+    body: u32,
+    naf: u32,
+    first: u16,
+    last: u16,
+    out: &mut [u8],
+) -> usize
     requires { ⌜ Ready p (now out) ⌝ }
-    ensures { λ r. ⌜ Wrote (keepText (clauseOf head body naf) p) (now (out .entry)) r (now (out .exit)) ⌝ }
+    ensures { λ r. ⌜ Wrote (keepText (clauseOf head body naf) first last p) (now (out .entry)) r (now (out .exit)) ⌝ }
 {
-    let held = hold::hold(p, head, body, naf);
+    let held = hold::hold(p, head, body, naf, first, last);
     let status = held.status;
     let q = held.program;
     match status {

@@ -26,6 +26,16 @@ filler-at d zero j = refl
 filler-at d (suc n) zero = refl
 filler-at d (suc n) (suc j) = filler-at d n j
 
+-- each place of a padded list
+pub padded-at : (k : ℕ) (L : List ℕ) (j : ℕ) → getD (padded k L) j 0 ≡ getD L j 0
+unfolding padded
+padded-at k L j = go (k - length L) L j
+  where
+    go : (m : ℕ) (L : List ℕ) (j : ℕ) → getD (L ++ replicate m 0) j 0 ≡ getD L j 0
+    go m [] j = filler-at 0 m j
+    go m (x ∷ L) zero = refl
+    go m (x ∷ L) (suc j) = go m L j
+
 -- written over zeros
 pub over-padded : (k : ℕ) (L : List ℕ) → over L (replicate k 0) ≡ padded k L
 unfolding padded

@@ -2,20 +2,24 @@
 use mathlib.Core.Path.{_≡_, refl, sym, ap, _∙_}
 use mathlib.Core.Bool.{Bool, true, false, cond, not, _&&_, and-true, and-assoc}
 use mathlib.Core.List.{List, _∷_}
-use Prim.Native.Nat.{ℕ, _+_, _≤_, _<_}
+use Prim.Native.Nat.{ℕ, _+_, _-_, _≤_, _<_}
 use native.Mathlib.Omega.{arith}
 use lib.Dec.{leb}
-use lib.ListN.{length, take}
+use lib.ListN.{length, take, drop, length-drop}
+use lib.Seq.{length-take-le, take-all, take-take}
+use borrow.Author.Tests.{le-leb}
 use Rattle.sets.specs.Lists.{every, anyOf}
 use Rattle.lists.specs.Bytes.{same, distinct, pieces, left, EndsAt}
-use Rattle.lists.proofs.Pieces.{part, left-start, left-step, left-done}
-use Rattle.program.specs.Names.{isName}
+use Rattle.lists.proofs.Pieces.{part, left-start, left-step, left-done, length-pieces}
+use Rattle.program.specs.Names.{isName, endsDated}
 use Rattle.program.specs.Refusals.{lowest}
-use Rattle.text.specs.Lines.{HasLine}
+use Rattle.program.proofs.Places.{up-to}
+use Rattle.text.specs.Lines.{HasLine, isDated, names}
 use Rattle.text.specs.Refusals.{namesBroken, namesEqual}
-use Rattle.text.proofs.Tests.{names-broken-is, names-equal-is}
+use Rattle.text.proofs.Tests.{dated-is, names-are}
+use Rattle.text.proofs.Words.{wordBytes, dated-long, dated-bytes, names-front}
 use Rattle.namesline.specs.declared.NamesLine.{NamesLine}
-use Rattle.namesline.specs.NamesLine.{namesSaid, namesRefusal}
+use Rattle.namesline.specs.NamesLine.{namesSaid, NamesEnd, namesRefusal}
 
 module _ (xs : List ℕ) where
   -- the next item, and those behind it
@@ -81,15 +85,51 @@ module _ (xs : List ℕ) where
       let a : apart ≡ distinct (pieces 32 xs) = sym (and-true apart) ∙ (rw e at (s .differ)) in
       rw (c, n, a)
 
+-- ---- whether the items end in the two words
+pub dated-part : (line : List ℕ) (t : Bool) → 8 ≤ length line → t ≡ same (take (length line - (length line - 8)) (drop (length line - 8) line)) wordBytes
+    → t ≡ endsDated (pieces 32 line)
+dated-part line t h e =
+    let k = take-all (length line - (length line - 8)) (drop (length line - 8) line) (omega (arith, length-drop (length line - 8) line)) in
+    e ∙ ap (λ (l : List ℕ). same l wordBytes) k ∙ dated-bytes line h
+
+-- ---- where the names end
+module _ (b : List ℕ) (e : ℕ) (h : HasLine b) (q : EndsAt b 10 0 e) where
+  pub dated-by : (t : Bool) → t ≡ endsDated (pieces 32 (take e b)) → t ≡ isDated b
+  dated-by t f = f ∙ sym (dated-is b e h q)
+
+  module _ (t : Bool) (f : t ≡ endsDated (pieces 32 (take e b))) where
+    pub words-fit : t ≡ true → 8 ≤ e
+    words-fit d = omega (arith, dated-long (take e b) (sym f ∙ d), up-to 10 b e q)
+
+    pub end-dated : t ≡ true → NamesEnd b (e - 8)
+    end-dated d =
+        let w = words-fit d in
+        let k : length (take e b) - 8 ≡ e - 8 = omega (arith, up-to 10 b e q) in
+        record {
+          within = omega (arith, q .to);
+          items = names-are b e h q ∙ names-front (take e b) (omega (arith, up-to 10 b e q)) (sym f ∙ d)
+              ∙ ap (pieces 32) (ap (λ (j : ℕ). take j (take e b)) k ∙ take-take (e - 8) e b (omega arith));
+        }
+
+    pub end-undated : t ≡ false → NamesEnd b e
+    end-undated d = record { within = omega (arith, q .to); items = names-are b e h q ∙ rw (← f, d) }
+
+-- the part of the text that the names stand on
+pub front-long : (b : List ℕ) (e : ℕ) → NamesEnd b e → length (take e b) ≡ e
+front-long b e q = length-take-le e b (q .within)
+
 -- ---- 5, 6 or neither
-module _ (b : List ℕ) (e : ℕ) (l : NamesLine) (h : HasLine b) (q : EndsAt b 10 0 e) (f : l ≡ namesSaid (pieces 32 (take e b))) where
+module _ (b : List ℕ) (e : ℕ) (l : NamesLine) (h : HasLine b) (q : NamesEnd b e) (f : l ≡ namesSaid (pieces 32 (take e b))) where
+  some : 1 ≤ length (names b)
+  some = omega (arith, ap length (q .items), length-pieces 32 (take e b))
+
   broken-is : not (leb (l .count) 12 && l .named) ≡ namesBroken b
-  unfolding namesSaid
-  broken-is = rw f (names-broken-is b e h q)
+  unfolding namesSaid namesBroken
+  broken-is = rw (f, ← q .items) (rw (le-leb 1 (length (names b)) some))
 
   equal-is : not (l .apart) ≡ namesEqual b
-  unfolding namesSaid
-  equal-is = rw f (names-equal-is b e h q)
+  unfolding namesSaid namesEqual
+  equal-is = rw (f, ← q .items)
 
   pub five : not (leb (l .count) 12 && l .named) ≡ true → 5 ≡ namesRefusal b
   unfolding namesRefusal lowest

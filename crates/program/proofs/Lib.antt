@@ -3,3 +3,6 @@ pub mod Values
 pub mod Places
 pub mod Validity
 pub mod Lowest
+pub mod Picking
+pub mod Chosen
+pub mod Days

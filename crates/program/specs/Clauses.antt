@@ -27,19 +27,36 @@ pub record Below (m : ℕ) (c : Clause) : Type 0 where
   pub bodies : c .body < 2 ^ m
   pub nafs : c .naf < 2 ^ m
 
--- the table's clauses, numbered from 0 as they stand in the book
-unfoldable pub rows : Program → List Clause
-unfolding tabulate
-rows p = tabulate (clauseAt (p .heads) (p .bodies) (p .nafs)) (p .«clause_count»)
+-- document 02, U13: a row is a clause with "a first day" and "its last"; both are 0 where the table's book was not dated
+pub record Row : Type 0 where
+  pub clause : Clause
+  pub first : ℕ
+  pub last : ℕ
 
--- the clauses that count: all of them
-unfoldable pub clauses : Program → List Clause
-unfolding rows
-clauses p = rows p
+abbrev pub rowOf : Clause → ℕ → ℕ → Row
+rowOf c f l = record { clause = c; first = f; last = l }
+
+-- the row at each place of a table's five columns
+abbrev pub rowAt : Program → ℕ → Row
+rowAt p k = rowOf (clauseAt (p .heads) (p .bodies) (p .nafs) k) (getD (p .firsts) k 0) (getD (p .lasts) k 0)
+
+-- the table's rows, numbered from 0 as they stand in the book
+unfoldable pub rows : Program → List Row
+unfolding tabulate
+rows p = tabulate (rowAt p) (p .«clause_count»)
+
+-- the clauses of all rows, whatever their days
+unfoldable pub standing : Program → List Clause
+unfolding tabulate
+standing p = tabulate (clauseAt (p .heads) (p .bodies) (p .nafs)) (p .«clause_count»)
 
 -- equal clauses have equal head, body and not-part
 abbrev pub isEqual : Clause → Clause → Bool
 isEqual c d = eqb (c .head) (d .head) && eqb (c .body) (d .body) && eqb (c .naf) (d .naf)
+
+-- document 02, U13: "equal clauses have equal days too"
+abbrev pub isEqualRow : Row → Row → Bool
+isEqualRow r s = isEqual (r .clause) (s .clause) && eqb (r .first) (s .first) && eqb (r .last) (s .last)
 
 -- the clause without any literal: all three parts are empty
 abbrev pub noClause : Clause
@@ -47,3 +64,6 @@ noClause = clauseOf 0 0 0
 
 abbrev pub isEmpty : Clause → Bool
 isEmpty c = isEqual c noClause
+
+abbrev pub noRow : Row
+noRow = rowOf noClause 0 0

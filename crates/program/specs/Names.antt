@@ -1,11 +1,11 @@
 -- Names of atoms, and the places that hold them. Assumes nothing.
 use mathlib.Core.Bool.{Bool, _&&_, _||_}
-use mathlib.Core.List.{List}
-use Prim.Native.Nat.{ℕ, _*_}
+use mathlib.Core.List.{List, [], _∷_}
+use Prim.Native.Nat.{ℕ, _-_, _*_}
 use lib.Dec.{leb}
-use lib.ListN.{length, take, drop}
+use lib.ListN.{length, getD, take, drop}
 use Rattle.sets.specs.Lists.{every, tabulate}
-use Rattle.lists.specs.Bytes.{index}
+use Rattle.lists.specs.Bytes.{index, same}
 use Rattle.program.specs.declared.Program.{Program}
 
 -- a-z; 0-9
@@ -35,3 +35,14 @@ nameAt xs i = take (index 0 (place xs i)) (place xs i)
 unfoldable pub namesOf : Program → List (List ℕ)
 unfolding nameAt tabulate
 namesOf p = tabulate (nameAt (p .«atom_names»)) (p .«atom_count»)
+
+-- document 02, U13: "from", "to"
+abbrev pub fromWord : List ℕ
+fromWord = 102 ∷ 114 ∷ 111 ∷ 109 ∷ []
+
+abbrev pub toWord : List ℕ
+toWord = 116 ∷ 111 ∷ []
+
+-- the items of a names line end in "from to" "behind at least one other name"
+unfoldable pub endsDated : List (List ℕ) → Bool
+endsDated is = leb 3 (length is) && same (getD is (length is - 2) []) fromWord && same (getD is (length is - 1) []) toWord

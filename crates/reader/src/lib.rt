@@ -6,7 +6,7 @@ ghost use lib.ListN.{length, replicate};
 ghost use Rattle.sets.specs.Lists.{every};
 ghost use Rattle.lists.specs.Bytes.{pieces, padded};
 ghost use Rattle.program.specs.Names.{isName};
-ghost use Rattle.text.specs.Lines.{names};
+ghost use Rattle.text.specs.Lines.{isDated, names};
 ghost use Rattle.text.specs.Tables.{placed};
 ghost use Rattle.text.specs.Refusals.{openingRefusal, clauseBroken};
 ghost use Rattle.text.specs.Reading.{programOf, refusedWith, readOf};
@@ -14,7 +14,6 @@ ghost use Rattle.clauselines.specs.Gathered.{clausesOf};
 use clauselines::ClauseLines;
 use program::Program;
 use program::Verdict;
-use text::NEWLINE;
 use text::Read;
 use text::SPACE;
 
@@ -39,7 +38,7 @@ fn atom_count(text: &[u8]) -> usize
     requires { ⌜ openingRefusal (now text) ≡ 0 ⌝ }
     ensures { λ r. ⌜ r ≡ length (names (now (text .entry))) ⌝ }
 {
-    let e = lists::end_of(text, 0, NEWLINE);
+    let e = namesline::names_end(text);
     lists::count_of(&text[..e], SPACE) + 1
 }
 
@@ -47,21 +46,23 @@ fn atom_names(text: &[u8]) -> [u8; 96]
     requires { ⌜ openingRefusal (now text) ≡ 0 ⌝ }
     ensures { λ r. ⌜ r ≡ padded 96 (placed (names (now (text .entry)))) ⌝ }
 {
-    let e = lists::end_of(text, 0, NEWLINE);
+    let e = namesline::names_end(text);
     let mut names = [0u8; 96];
     put_names(&mut names, &text[..e]);
     names
 }
 
-// The table of a text with `n` names whose clause lines say `lines` and hold the form.
-fn table_of(text: &[u8], n: usize, lines: ClauseLines) -> Program
-    requires { ⌜ (openingRefusal (now text) ≡ 0) × (clauseBroken (now text) ≡ false) × (n ≡ length (names (now text))) × (lines ≡ clausesOf (now text)) ⌝ }
+// The table of a text with `n` names, dated or not, whose clause lines say `lines` and hold the form.
+fn table_of(text: &[u8], n: usize, dated: bool, lines: ClauseLines) -> Program
+    requires { ⌜ (openingRefusal (now text) ≡ 0) × (clauseBroken (now text) ≡ false) × (n ≡ length (names (now text))) × (dated ≡ isDated (now text)) × (lines ≡ clausesOf (now text)) ⌝ }
     ensures { λ r. ⌜ r ≡ programOf (now (text .entry)) ⌝ }
 {
     let names = atom_names(text);
     let heads = lines.heads;
     let bodies = lines.bodies;
     let nafs = lines.nafs;
+    let firsts = lines.firsts;
+    let lasts = lines.lasts;
     let held = program::nothing_held();
     Program {
         atom_count: n,
@@ -70,6 +71,9 @@ fn table_of(text: &[u8], n: usize, lines: ClauseLines) -> Program
         heads: heads,
         bodies: bodies,
         nafs: nafs,
+        dated: dated,
+        firsts: firsts,
+        lasts: lasts,
         held: held,
     }
 }
@@ -80,6 +84,7 @@ fn refused(number: u8) -> Read
 {
     let names = [0u8; 96];
     let words = [0u32; 64];
+    let days = [0u16; 64];
     let held = program::nothing_held();
     let none = Program {
         atom_count: 0,
@@ -88,6 +93,9 @@ fn refused(number: u8) -> Read
         heads: words,
         bodies: words,
         nafs: words,
+        dated: false,
+        firsts: days,
+        lasts: days,
         held: held,
     };
     Read {
@@ -105,14 +113,18 @@ pub fn read_program(text: &[u8]) -> Read
         return refused(opening);
     }
     let n = atom_count(text);
-    let lines = clauselines::clause_lines(text, n);
+    let dated = namesline::is_dated(text);
+    let lines = clauselines::clause_lines(text, n, dated);
     if lines.broken {
         return refused(program::CLAUSE_BROKEN);
     }
     if lines.zeros {
         return refused(program::ONLY_ZEROS);
     }
-    let program = table_of(text, n, lines);
+    if lines.reversed {
+        return refused(program::DAYS_REVERSED);
+    }
+    let program = table_of(text, n, dated, lines);
     Read {
         verdict: Verdict::Accepted,
         program: program,

@@ -3,7 +3,7 @@ use mathlib.Core.Path.{_≡_, refl, sym, ap, ap₂, _∙_}
 use mathlib.Core.List.{List, [], _∷_, _++_, map, append-assoc, append-nil}
 use Prim.Native.Nat.{ℕ, zero, suc, _+_, _≤_, _<_}
 use native.Mathlib.Omega.{arith}
-use lib.ListN.{length, take, set, replicate, length-append, length-set}
+use lib.ListN.{length, getD, take, set, replicate, length-append, length-set}
 use Rattle.lists.specs.Bytes.{left, EndsAt}
 use Rattle.lists.proofs.Pieces.{part, left-start, left-step, left-done}
 use Rattle.decimal.specs.declared.Parsed.{Parsed}
@@ -39,10 +39,18 @@ first-take zero n vs h = refl
 first-take (suc m) zero vs h = absurd (omega arith)
 first-take (suc m) (suc n) vs h = rw (first-take m n _ (omega arith))
 
-pub first-all : (vs : List ℕ) → first (length vs) vs ≡ vs
+pub first-front : (n : ℕ) (vs : List ℕ) → n ≤ length vs → first n vs ≡ take n vs
 unfolding first
-first-all [] = refl
-first-all (v ∷ vs) = ap (λ (l : List ℕ). v ∷ l) (first-all vs)
+first-front zero vs h = refl
+first-front (suc n) [] h = absurd (omega arith)
+first-front (suc n) (v ∷ vs) h = ap (λ (l : List ℕ). v ∷ l) (first-front n vs (omega arith))
+
+pub first-at : (n : ℕ) (vs : List ℕ) (j : ℕ) → j < n → getD (first n vs) j 0 ≡ getD vs j 0
+unfolding first
+first-at zero vs j h = absurd (omega arith)
+first-at (suc n) vs zero h = refl
+first-at (suc n) [] (suc j) h = first-at n [] j (omega arith)
+first-at (suc n) (v ∷ vs) (suc j) h = first-at n vs j (omega arith)
 
 -- ---- the items below at are done
 module _ (line : List ℕ) where

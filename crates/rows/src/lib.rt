@@ -3,7 +3,7 @@ ghost use mathlib.Core.Path.{_≡_};
 ghost use Prim.Native.Nat.{_≤_};
 ghost use lib.ListN.{set};
 ghost use Rattle.text.specs.Lines.{valueOf};
-ghost use Rattle.rows.specs.Rows.{rowOf, weighed};
+ghost use Rattle.rows.specs.Rows.{rowOf, wanted, dayOf, weighed};
 use decimal::Parsed;
 use text::SPACE;
 
@@ -21,13 +21,17 @@ pub struct Row {
     pub values: [u32; ROW_PLACES],
 }
 
-// What a clause line says: whether it has a value for each name, whether those are all zero, and the words of its clause.
+// What a clause line says: whether it has a value for each name and the days it should have, whether the values are all zero,
+// whether its first day is after its last, the words of its clause, and its days.
 pub struct ClauseLine {
     pub holds: bool,
     pub zero: bool,
+    pub reversed: bool,
     pub head: u32,
     pub body: u32,
     pub naf: u32,
+    pub first: u16,
+    pub last: u16,
 }
 
 // The number up to `MOST_NUMBER` that `s` is the decimal text of, `NO_NUMBER` for none.
@@ -69,14 +73,32 @@ pub fn row_of(line: &[u8]) -> Row
     }
 }
 
-// What a row says for `n` names: its tests and its three words in one pass, the last name first.
-pub fn weigh(row: Row, n: usize) -> ClauseLine
+// How many numbers stand on a line for `n` names: two more where the book is dated.
+fn numbers_wanted(n: usize, dated: bool) -> usize
     requires { ⌜ n ≤ 12 ⌝ }
-    ensures { λ r. ⌜ r ≡ weighed n row ⌝ }
+    ensures { λ r. ⌜ r ≡ wanted dated n ⌝ }
+{
+    if dated { n + 2 } else { n }
+}
+
+// A number as a day, which it is up to 65535.
+fn day_of(v: u32) -> u16
+    ensures { λ r. ⌜ r ≡ dayOf v ⌝ }
+{
+    (v % 65536) as u16
+}
+
+// What a row says for `n` names: the tests of its values and its three words in one pass, the last name first; its days stand behind them.
+pub fn weigh(row: Row, n: usize, dated: bool) -> ClauseLine
+    requires { ⌜ n ≤ 12 ⌝ }
+    ensures { λ r. ⌜ r ≡ weighed dated n row ⌝ }
 {
     let values = row.values;
-    let mut holds = row.count == n;
-    let mut zero = holds;
+    let first = values[n];
+    let last = values[n + 1];
+    let counted = row.count == numbers_wanted(n, dated);
+    let mut holds = (first <= 65535) & (last <= 65535) & counted;
+    let mut zero = counted;
     let mut head: u32 = 0;
     let mut body: u32 = 0;
     let mut naf: u32 = 0;
@@ -93,8 +115,11 @@ pub fn weigh(row: Row, n: usize) -> ClauseLine
     ClauseLine {
         holds: holds,
         zero: zero,
+        reversed: dated & (last < first),
         head: head,
         body: body,
         naf: naf,
+        first: day_of(first),
+        last: day_of(last),
     }
 }

@@ -50,15 +50,17 @@ fn search_clauses(
     }
 }
 
-// The search of a table, by value: its clauses are packed once and lent from here on.
-pub fn search(p: Program, node_limit: u64, models: &mut [u32]) -> SearchAnswer
-    ensures { λ r. ⌜ Searches p «node_limit» (now (models .entry)) r (now (models .exit)) ⌝ }
+// The search of a table on a day, by value: the day's clauses are packed once and lent from here on.
+pub fn search(p: Program, day: u16, node_limit: u64, models: &mut [u32]) -> SearchAnswer
+    ensures { λ r. ⌜ Searches p day «node_limit» (now (models .entry)) r (now (models .exit)) ⌝ }
 {
     if !validity::is_valid(p) {
         return ended(Outcome::Refused(program::INVALID_PROGRAM), 0, 0);
     }
-    let n = p.atom_count;
-    let count = p.clause_count;
-    let table = leaf::pack(&p.heads, &p.bodies, &p.nafs);
+    let rows = program::day_rows(p, day);
+    let q = program::only(p, rows);
+    let n = q.atom_count;
+    let count = q.clause_count;
+    let table = leaf::pack(&q.heads, &q.bodies, &q.nafs);
     search_clauses(&table, count, n, node_limit, models)
 }

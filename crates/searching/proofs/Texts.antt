@@ -34,14 +34,14 @@ run-fits hit ns A L = go (length (hits hit (take A ns))) (ltb L (length (hits hi
     go f false e true = ltb-false _ _ e
     go f false e false = ltb-false _ _ e
 
-module _ (p : Program) (xs : List ℕ) (q : Ready p xs) (A : ℕ) (l : List ℕ) (a : SearchAnswer) (ms : List ℕ) (s : Searches p A l a ms) where
+module _ (p : Program) (xs : List ℕ) (q : Ready p xs) (d A : ℕ) (l : List ℕ) (a : SearchAnswer) (ms : List ℕ) (s : Searches p d A l a ms) where
   places : a .written ≤ length l
   places =
-      let e = ap (λ (x : SearchAnswer). x .written) (s .says ∙ accepted p A l (q .accepted) .0) in
-      omega (arith, run-fits (leafOf p) (nodesOf p) A (length l))
+      let e = ap (λ (x : SearchAnswer). x .written) (s .says ∙ accepted p d A l (q .accepted) .0) in
+      omega (arith, run-fits (leafOf p d) (nodesOf p d) A (length l))
 
   pub written-here : a .written ≤ length ms
-  written-here = omega (arith, places, ap length (s .lists) ∙ same-places p A l)
+  written-here = omega (arith, places, ap length (s .lists) ∙ same-places p d A l)
 
   pub written-long : a .written ≡ length (take (a .written) ms)
   written-long = sym (length-take-le (a .written) ms written-here)
@@ -49,12 +49,12 @@ module _ (p : Program) (xs : List ℕ) (q : Ready p xs) (A : ℕ) (l : List ℕ)
   pub written-ready : length l ≤ 4096 → ReadyToList p (take (a .written) ms) xs
   written-ready h = record { ready = q; short = omega (arith, places, written-long) }
 
-pub search-wrote : (p : Program) (A : ℕ) (l : List ℕ) (a : SearchAnswer) (ms : List ℕ) → Searches p A l a ms → (xs : List ℕ) (r : ℕ) (ys : List ℕ)
-    → Wrote (listing p (take (a .written) ms) ++ lastLine (a .outcome) (a .written) (a .visited)) xs r ys → Wrote (searchText A l p) xs r ys
+pub search-wrote : (p : Program) (d A : ℕ) (l : List ℕ) (a : SearchAnswer) (ms : List ℕ) → Searches p d A l a ms → (xs : List ℕ) (r : ℕ) (ys : List ℕ)
+    → Wrote (listing p (take (a .written) ms) ++ lastLine (a .outcome) (a .written) (a .visited)) xs r ys → Wrote (searchText d A l p) xs r ys
 unfolding searchText listed
-search-wrote p A l a ms s xs r ys w = rw (← s .says, ← s .lists) w
+search-wrote p d A l a ms s xs r ys w = rw (← s .says, ← s .lists) w
 
 -- ---- the lent list
-pub search-cut : (A k r : ℕ) (p : Program) (xs : List ℕ) (m : ℕ) (ys : List ℕ) → r ≡ min k 4096
-    → Wrote (searchText A (take r (zeros 4096)) p) xs m ys → Wrote (searchText A (lentList k) p) xs m ys
-search-cut A k r p xs m ys e w = subst (λ (l : List ℕ). Wrote (searchText A l p) xs m ys) (cut-zeros r k 4096 e) w
+pub search-cut : (d A k r : ℕ) (p : Program) (xs : List ℕ) (m : ℕ) (ys : List ℕ) → r ≡ min k 4096
+    → Wrote (searchText d A (take r (zeros 4096)) p) xs m ys → Wrote (searchText d A (lentList k) p) xs m ys
+search-cut d A k r p xs m ys e w = subst (λ (l : List ℕ). Wrote (searchText d A l p) xs m ys) (cut-zeros r k 4096 e) w

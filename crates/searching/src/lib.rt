@@ -27,12 +27,12 @@ fn put_searched(
     a + b
 }
 
-// A search of `p` in the lent list.
-fn put_listed(p: Program, node_limit: u64, models: &mut [u32], out: &mut [u8]) -> usize
+// A search of `p` on the day in the lent list.
+fn put_listed(p: Program, day: u16, node_limit: u64, models: &mut [u32], out: &mut [u8]) -> usize
     requires { ⌜ ReadyToList p (now models) (now out) ⌝ }
-    ensures { λ r. ⌜ Wrote (searchText «node_limit» (now (models .entry)) p) (now (out .entry)) r (now (out .exit)) ⌝ }
+    ensures { λ r. ⌜ Wrote (searchText day «node_limit» (now (models .entry)) p) (now (out .entry)) r (now (out .exit)) ⌝ }
 {
-    let a = search::search(p, node_limit, models);
+    let a = search::search(p, day, node_limit, models);
     let m = a.written;
     let outcome = a.outcome;
     let v = a.visited;
@@ -40,11 +40,11 @@ fn put_listed(p: Program, node_limit: u64, models: &mut [u32], out: &mut [u8]) -
 }
 
 // A search in a list of so many places; more than `MOST_PLACES` count as that many.
-pub fn put_search(p: Program, node_limit: u64, places: usize, out: &mut [u8]) -> usize
+pub fn put_search(p: Program, day: u16, node_limit: u64, places: usize, out: &mut [u8]) -> usize
     requires { ⌜ Ready p (now out) ⌝ }
-    ensures { λ r. ⌜ Wrote (searchText «node_limit» (lentList places) p) (now (out .entry)) r (now (out .exit)) ⌝ }
+    ensures { λ r. ⌜ Wrote (searchText day «node_limit» (lentList places) p) (now (out .entry)) r (now (out .exit)) ⌝ }
 {
     let n = lists::least(places, MOST_PLACES);
     let mut models = [0u32; MOST_PLACES];
-    put_listed(p, node_limit, &mut models[..n], out)
+    put_listed(p, day, node_limit, &mut models[..n], out)
 }

@@ -2,22 +2,30 @@
 use mathlib.Core.Path.{_≡_, refl, sym, ap, _∙_}
 use mathlib.Core.Bool.{Bool, true, false, cond, not, _&&_, _||_, and-false}
 use mathlib.Core.List.{List, [], _∷_, map}
-use Prim.Native.Nat.{ℕ, suc, _+_, _-_, _^_, _≤_, _<_}
+use Prim.Native.Nat.{ℕ, zero, suc, _+_, _-_, _/_, _^_, _≤_, _<_}
 use native.Mathlib.Omega.{arith}
 use lib.Dec.{eqb, eqb·zero-suc, eqb·suc-suc}
-use lib.Bits.{bitAnd, and-le-r, and-zero-l}
+use lib.Bits.{bitAnd, and-le-r, and-zero-l, and-mask}
 use lib.ListN.{length, getD}
 use borrow.Author.Tests.{lt-ltb, le-ltb, eq-eqb, ne-eqb}
 use Rattle.sets.specs.Lists.{every, anyOf, sift, tabulate}
-use Rattle.sets.specs.Words.{Inside, Next, inside, apart, nextSubset}
-use Rattle.sets.specs.Least.{least}
+use Rattle.sets.specs.Words.{Set, bit, Inside, Next, inside, apart, nextSubset}
+use Rattle.sets.specs.Least.{leastFrom, least}
+use Rattle.sets.proofs.Digits.{bit-div}
 use Rattle.sets.proofs.Least.{Searched, miss, leap, least-suc}
 use Rattle.sets.proofs.Subsets.{next-is}
-use Rattle.program.specs.Clauses.{Clause, clauseOf, noClause}
 use Rattle.sets.proofs.Lists.{length-tabulate, getD-tabulate}
+use Rattle.program.specs.declared.Program.{Program}
+use Rattle.program.specs.Clauses.{Clause, Row, clauseOf, clauseAt, rows, standing, noClause, noRow}
+use Rattle.program.specs.Days.{ofDay, clauses, RowsOfDay}
+use Rattle.program.specs.Only.{onlyOf}
+use Rattle.program.specs.Valid.{valid}
+use Rattle.program.proofs.Validity.{valid-clauses}
+use Rattle.program.proofs.Chosen.{only-valid}
+use Rattle.program.proofs.Days.{length-rows, row-is, day-table}
 use Rattle.stable.specs.declared.Checked.the-variants.{Violated, Smaller, Stable}
 use Rattle.semantics.specs.Interpretations.{satisfies, reduct, isModel, violates, violatedAt, smaller, leastSmaller}
-use Rattle.stable.specs.Check.{firstViolated, verdict}
+use Rattle.stable.specs.Check.{firstViolated, verdict, violatedIn}
 
 -- ---- a clause more
 strip-violates : (w : ℕ) (c : Clause) → satisfies w (clauseOf (c .head) (c .body) 0) ≡ not (inside (c .body) w && apart (c .head) w)
@@ -78,9 +86,27 @@ violates-self I c = go (inside (c .body) I) (apart (c .naf) I) (apart (c .head) 
     go true false d = refl
     go false b d = refl
 
-pub first-violated-is : (P : List Clause) (I : ℕ) → firstViolated P I ≡ least (violatedAt P I I) (length P)
-unfolding firstViolated violatedAt
-first-violated-is P I = ap (λ (f : ℕ → Bool). least f (length P)) (λ i k. sym (violates-self I (getD P k noClause)) i)
+-- ---- the rows that count, by number
+-- of rows those that pass a test, as clauses
+abbrev pub counted : (Row → Bool) → List Row → List Clause
+counted counts R = map (λ r. r .clause) (sift counts R)
+
+-- no row that counts is violated: the word is a model of the reduct of their clauses
+pub model-rows-least : (counts : Row → Bool) (R : List Row) (I : ℕ) → eqb (firstViolated counts R I) (length R) ≡ isModel (reduct (counted counts R) I) I
+unfolding firstViolated least reduct sift isModel every
+model-rows-least counts [] I = refl
+model-rows-least counts (r ∷ R) I =
+    rw (least-suc (λ k. counts (getD (r ∷ R) k noRow) && not (satisfies I (getD (r ∷ R) k noRow .clause))) (length R)) (go (counts r) (model-rows-least counts R I))
+  where
+    go : (b : Bool) → eqb (firstViolated counts R I) (length R) ≡ isModel (reduct (counted counts R) I) I
+        → eqb (cond (b && not (satisfies I (r .clause))) 0 (suc (firstViolated counts R I))) (suc (length R))
+        ≡ isModel (reduct (map (λ r. r .clause) (cond b (r ∷ sift counts R) (sift counts R))) I) I
+    go false e = eqb·suc-suc (firstViolated counts R I) (length R) ∙ e
+    go true e = sym (model-cons (r .clause) (counted counts R) I I ∙ rw (violates-self I (r .clause)) (sym (at (satisfies I (r .clause)))))
+      where
+        at : (s : Bool) → eqb (cond (not s) 0 (suc (firstViolated counts R I))) (suc (length R)) ≡ not (not s) && isModel (reduct (counted counts R) I) I
+        at true = eqb·suc-suc (firstViolated counts R I) (length R) ∙ e
+        at false = eqb·zero-suc (length R)
 
 -- ---- the loops, over any layout of n clauses
 module _ (at : ℕ → Clause) (n I : ℕ) where
@@ -104,23 +130,71 @@ module _ (at : ℕ → Clause) (n I : ℕ) where
   unfolding leastSmaller
   least-is j e = e
 
-  -- ---- the answer, by the way that the check is left
-  module _ (v : ℕ) (e : v ≡ least (violatedAt (tabulate at n) I I) n) where
-    violated-first : v ≡ firstViolated (tabulate at n) I
-    violated-first = e ∙ ap (least (violatedAt (tabulate at n) I I)) (sym (length-tabulate at n)) ∙ sym (first-violated-is (tabulate at n) I)
+-- ---- the rows of a set, one by one
+-- the test of one row, as the code makes it
+pub row-test : (w k : ℕ) {r x : Bool} → r ≡ x → eqb (bitAnd (w / 2 ^ k) 1) 1 && r ≡ bit w k && x
+row-test w k {r} {x} e = rw e (ap (λ y. eqb y 1 && x) (and-mask (w / 2 ^ k) 1) ∙ ap (λ b. b && x) (sym (bit-div w k)))
 
-    pub is-violated : v < n → Violated v ≡ verdict (tabulate at n) (tabulate at n) I
+module _ (S : Set ℕ) (at : ℕ → Clause) (I k : ℕ) {r b : Bool} where
+  pub row-tested : r ≡ S k && violates I I (at k) → r ≡ b → violatedIn S at I k ≡ b
+  unfolding violatedIn
+  row-tested e t = sym e ∙ t
+
+-- two tests that agree below n have the same least number below n
+from-same : (f g : ℕ → Bool) (k i : ℕ) → ((j : ℕ) → j < i + k → f j ≡ g j) → leastFrom f k i ≡ leastFrom g k i
+unfolding leastFrom
+from-same f g zero i h = refl
+from-same f g (suc k) i h = rw (h i (omega arith), from-same f g k (suc i) (λ j l. h j (omega arith)))
+
+least-same : (f g : ℕ → Bool) (n : ℕ) → ((j : ℕ) → j < n → f j ≡ g j) → least f n ≡ least g n
+unfolding least
+least-same f g n h = from-same f g n 0 (λ j l. h j (omega arith))
+
+-- ---- the answer on a day, by the way that the check is left
+-- a valid table has at most 64 rows
+pub few-rows : (p : Program) → valid p ≡ true → p .«clause_count» ≤ 64
+few-rows p v = valid-clauses p v .short
+
+-- and so has the table of some of them
+pub few-chosen : (p : Program) (w : ℕ) {q : Program} → valid p ≡ true → q ≡ onlyOf p w → q .«clause_count» ≤ 64
+few-chosen p w v g = rw g (few-rows (onlyOf p w) (only-valid p v w))
+
+pub row-number : (p : Program) (k : ℕ) → valid p ≡ true → k < p .«clause_count» → k < 2 ^ 32
+row-number p k v h = omega (arith, few-rows p v)
+
+module _ (p : Program) (d w I : ℕ) (v : valid p ≡ true) (s : RowsOfDay p d w) where
+  at-row : (i : ℕ) → i < p .«clause_count» → violatedIn (bit w) (clauseAt (p .heads) (p .bodies) (p .nafs)) I i
+      ≡ ofDay p d (getD (rows p) i noRow) && not (satisfies I (getD (rows p) i noRow .clause))
+  unfolding violatedIn
+  at-row i h =
+      let l : i < 64 = omega (arith, valid-clauses p v .short) in
+      rw (s .exactly i, lt-ltb i 64 l, violates-self I, row-is p i h)
+
+  -- the table of the day's clauses
+  of-day : {q : Program} → q ≡ onlyOf p w → tabulate (clauseAt (q .heads) (q .bodies) (q .nafs)) (q .«clause_count») ≡ clauses p d
+  unfolding standing
+  of-day g = ap standing g ∙ day-table p d w v s .standing-are
+
+  module _ (k : ℕ) (e : k ≡ least (violatedIn (bit w) (clauseAt (p .heads) (p .bodies) (p .nafs)) I) (p .«clause_count»)) where
+    first-row : k ≡ firstViolated (ofDay p d) (rows p) I
+    unfolding firstViolated
+    first-row = e ∙ least-same _ (λ i. ofDay p d (getD (rows p) i noRow) && not (satisfies I (getD (rows p) i noRow .clause))) (p .«clause_count») at-row ∙ rw (length-rows p)
+
+    pub is-violated : k < p .«clause_count» → Violated k ≡ verdict (ofDay p d) (rows p) (clauses p d) I
     unfolding verdict
-    is-violated h = rw (← violated-first, length-tabulate at n, lt-ltb v n h)
+    is-violated h = rw (← first-row, length-rows p, lt-ltb k (p .«clause_count») h)
 
-    module _ (j : ℕ) (h : n ≤ v) (f : j ≡ leastSmaller (tabulate at n) I) where
-      pub is-smaller : j < I → Smaller j ≡ verdict (tabulate at n) (tabulate at n) I
-      unfolding verdict
-      is-smaller l = rw (← violated-first, length-tabulate at n, le-ltb v n h, ← f, lt-ltb j I l)
+    module _ (j : ℕ) (h : p .«clause_count» ≤ k) {q : Program} (g : q ≡ onlyOf p w) (f : j ≡ leastSmaller (tabulate (clauseAt (q .heads) (q .bodies) (q .nafs)) (q .«clause_count»)) I) where
+      least-of-day : j ≡ leastSmaller (clauses p d) I
+      least-of-day = f ∙ ap (λ P. leastSmaller P I) (of-day g)
 
-      pub is-stable : I ≤ j → Stable ≡ verdict (tabulate at n) (tabulate at n) I
+      pub is-smaller : j < I → Smaller j ≡ verdict (ofDay p d) (rows p) (clauses p d) I
       unfolding verdict
-      is-stable l = rw (← violated-first, length-tabulate at n, le-ltb v n h, ← f, le-ltb j I l)
+      is-smaller l = rw (← first-row, length-rows p, le-ltb k (p .«clause_count») h, ← least-of-day, lt-ltb j I l)
+
+      pub is-stable : I ≤ j → Stable ≡ verdict (ofDay p d) (rows p) (clauses p d) I
+      unfolding verdict
+      is-stable l = rw (← first-row, length-rows p, le-ltb k (p .«clause_count») h, ← least-of-day, le-ltb j I l)
 
 -- ---- a turn of the walk: j is not I, and m follows it
 module _ (I j m : ℕ) (l : I < 2 ^ 32) (h : Inside j I) (s : j < I) (e : m ≡ nextSubset 32 I j) where

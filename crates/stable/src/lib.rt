@@ -1,12 +1,15 @@
 // The check of one candidate against Definition 3.1.
 ghost use mathlib.Core.Path.{_≡_};
-ghost use Prim.Native.Nat.{_≤_};
+ghost use mathlib.Core.Bool.{true, _&&_};
+ghost use Prim.Native.Nat.{_≤_, _<_};
 ghost use Rattle.sets.specs.Lists.{tabulate};
-ghost use Rattle.sets.specs.Words.{nextSubset};
+ghost use Rattle.sets.specs.Words.{bit, nextSubset};
 ghost use Rattle.sets.specs.Least.{least};
-ghost use Rattle.program.specs.Clauses.{clauseOf, clauseAt};
+ghost use Rattle.program.specs.Clauses.{clauseOf, clauseAt, rows};
+ghost use Rattle.program.specs.Days.{ofDay, clauses};
+ghost use Rattle.program.specs.Valid.{valid};
 ghost use Rattle.semantics.specs.Interpretations.{violates, violatedAt, leastSmaller};
-ghost use Rattle.stable.specs.Check.{verdict, Checks};
+ghost use Rattle.stable.specs.Check.{violatedIn, verdict, Checks};
 use program::Program;
 
 // What the check of a candidate finds.
@@ -74,30 +77,59 @@ fn least_smaller<'a>(
     candidate
 }
 
-fn check_clauses<'a>(
+// Whether row `k` is in the set `rows` and `w` violates its clause.
+fn violates_row(rows: u64, k: usize, head: u32, body: u32, naf: u32, w: u32) -> bool
+    requires { ⌜ k < 64 ⌝ }
+    ensures { λ r. ⌜ r ≡ bit rows k && violates w w (clauseOf head body naf) ⌝ }
+{
+    ((rows >> k) & 1 == 1) & violates_clause(head, body, naf, w, w)
+}
+
+// The least number of a row of the set `rows` whose clause `w` violates; `count` where there is none.
+fn first_violated_row<'a>(
     heads: &'a [u32; program::MOST_CLAUSES],
     bodies: &'a [u32; program::MOST_CLAUSES],
     nafs: &'a [u32; program::MOST_CLAUSES],
     count: usize,
-    candidate: u32,
-) -> Checked
+    rows: u64,
+    w: u32,
+) -> usize
     requires { ⌜ count ≤ 64 ⌝ }
-    ensures { λ r. ⌜ r ≡ verdict (tabulate (clauseAt (now (heads .entry)) (now (bodies .entry)) (now (nafs .entry))) count) (tabulate (clauseAt (now (heads .entry)) (now (bodies .entry)) (now (nafs .entry))) count) candidate ⌝ }
+    ensures { λ r. ⌜ r ≡ least (violatedIn (bit rows) (clauseAt (now (heads .entry)) (now (bodies .entry)) (now (nafs .entry))) w) count ⌝ }
 {
-    let v = first_violated(heads, bodies, nafs, count, candidate, candidate);
+    let mut row: usize = 0;
+    while row < count {
+        if violates_row(rows, row, heads[row], bodies[row], nafs[row], w) {
+            return row;
+        }
+        row += 1;
+    }
+    count
+}
+
+// The check of a word over the names of a valid table: a row's number is the table's, and the smaller subset is that of the day's clauses.
+fn check_day(p: Program, day: u16, candidate: u32) -> Checked
+    requires { ⌜ valid p ≡ true ⌝ }
+    ensures { λ r. ⌜ r ≡ verdict (ofDay p day) (rows p) (clauses p day) candidate ⌝ }
+{
+    let rows = program::day_rows(p, day);
+    let count = p.clause_count;
+    let v = first_violated_row(&p.heads, &p.bodies, &p.nafs, count, rows, candidate);
     if v < count {
         return Checked::Violated(v as u32);
     }
-    let j = least_smaller(heads, bodies, nafs, count, candidate);
+    let q = program::only(p, rows);
+    let standing = q.clause_count;
+    let j = least_smaller(&q.heads, &q.bodies, &q.nafs, standing, candidate);
     if j < candidate {
         return Checked::Smaller(j);
     }
     Checked::Stable
 }
 
-// The check of one candidate, by value: the table is read once and its arrays are lent from here on.
-pub fn check(p: Program, candidate: u32) -> Checked
-    ensures { λ r. ⌜ Checks p candidate r ⌝ }
+// The check of one candidate on a day.
+pub fn check(p: Program, day: u16, candidate: u32) -> Checked
+    ensures { λ r. ⌜ Checks p day candidate r ⌝ }
 {
     if !validity::is_valid(p) {
         return Checked::Refused(program::INVALID_PROGRAM);
@@ -106,6 +138,5 @@ pub fn check(p: Program, candidate: u32) -> Checked
     if !program::is_word(n, candidate) {
         return Checked::Refused(program::OUTSIDE_WORD);
     }
-    let count = p.clause_count;
-    check_clauses(&p.heads, &p.bodies, &p.nafs, count, candidate)
+    check_day(p, day, candidate)
 }

@@ -11,6 +11,7 @@ use Rattle.program.specs.declared.Program.{Program}
 use Rattle.program.specs.declared.Verdict.the-variants as verdict
 use Rattle.program.specs.Names.{nameAt, namesOf}
 use Rattle.program.specs.Refusals.{lowest}
+use Rattle.program.specs.Valid.{Sized}
 use Rattle.text.specs.Lines.{namesLine}
 use Rattle.text.specs.Render.{render}
 use Rattle.text.specs.Writing as writing
@@ -55,16 +56,16 @@ module _ (p : Program) (words : List ℕ) (s : Summary) (e : s ≡ summaryOf p w
   unfolding summarizedText unlessRefused summaryLines
   summed-refused n t w = rw (← e, t) w
 
-pub summary-wrote : (p : Program) (a : SearchAnswer) (ms : List ℕ) → Searches p allowance lent a ms → (xs : List ℕ) (r : ℕ) (ys : List ℕ)
-    → Wrote (summarizedText (take (a .written) ms) p) xs r ys → Wrote (summaryText p) xs r ys
+pub summary-wrote : (p : Program) (d : ℕ) (a : SearchAnswer) (ms : List ℕ) → Searches p d allowance lent a ms → (xs : List ℕ) (r : ℕ) (ys : List ℕ)
+    → Wrote (summarizedText (take (a .written) ms) p) xs r ys → Wrote (summaryText d p) xs r ys
 unfolding summaryText listed
-summary-wrote p a ms s xs r ys w = rw (← s .says, ← s .lists) w
+summary-wrote p d a ms s xs r ys w = rw (← s .says, ← s .lists) w
 
 -- ---- the text written back
-module _ (p : Program) (xs : List ℕ) (q : Ready p xs) (w : Written) (ys : List ℕ) (s : writing.Writes p xs w ys) where
+module _ (p : Program) (xs : List ℕ) (q : Ready p xs) (w : Written) (ys : List ℕ) (s : writing.Writes p xs w ys) (z : Sized p) where
   taken : writing.writeRefusal p xs ≡ 0
   unfolding writing.writeRefusal lowest
-  taken = rw (q .accepted, le-ltb (length xs) (length (render p)) (omega (arith, text-most p (q .accepted), q .room)))
+  taken = rw (q .accepted, le-ltb (length xs) (length (render p)) (omega (arith, text-most p (q .accepted) z, q .room)))
 
   pub text-wrote : (r : ℕ) → w ≡ written.Length r → Wrote (render p) xs r ys
   unfolding writing.answerOf writing.exitOf

@@ -1,4 +1,4 @@
--- What `summary` says of a table, as a definition of the table; `write` says the text of the table, `render`. Assumes nothing.
+-- What `summary` says of a table, as a definition of the table and of the day; `write` says the text of the table, `render`. Assumes nothing.
 use mathlib.Core.List.{List, _++_}
 use Prim.Native.Nat.{ℕ}
 use Rattle.program.specs.declared.Program.{Program}
@@ -21,5 +21,5 @@ summarizedText words p =
     unlessRefused (s .verdict) (summaryLines p s)
 
 -- "after a search as the report's (limit 33,554,431, list of 4,096)"
-unfoldable pub summaryText : Program → List ℕ
-summaryText p = summarizedText (searched.listed p allowance lent) p
+unfoldable pub summaryText : ℕ → Program → List ℕ
+summaryText d p = summarizedText (searched.listed p d allowance lent) p

@@ -35,13 +35,13 @@ fn put_summarized(p: Program, words: &[u32], out: &mut [u8]) -> usize
     }
 }
 
-// The summary of the models of a search as the report's.
-pub fn put_summary(p: Program, out: &mut [u8]) -> usize
+// The summary of the models of a search as the report's, on the day.
+pub fn put_summary(p: Program, day: u16, out: &mut [u8]) -> usize
     requires { ⌜ Ready p (now out) ⌝ }
-    ensures { λ r. ⌜ Wrote (summaryText p) (now (out .entry)) r (now (out .exit)) ⌝ }
+    ensures { λ r. ⌜ Wrote (summaryText day p) (now (out .entry)) r (now (out .exit)) ⌝ }
 {
     let mut models = [0u32; MOST_PLACES];
-    let a = search::search(p, NODE_LIMIT, &mut models);
+    let a = search::search(p, day, NODE_LIMIT, &mut models);
     let m = a.written;
     put_summarized(p, &models[..m], out)
 }

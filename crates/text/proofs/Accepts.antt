@@ -1,12 +1,12 @@
 -- The text of good names and rows is accepted, and an accepted text has such. Assumes nothing.
-use mathlib.Core.Path.{_≡_, refl, ap, _∙_}
-use mathlib.Core.Bool.{Bool, true, false, not, _||_, or-true}
-use mathlib.Core.List.{List, [], _∷_, _++_, map, tail}
+use mathlib.Core.Path.{_≡_, refl, sym, ap, _∙_}
+use mathlib.Core.Bool.{Bool, true, false, cond, not, _||_, or-true}
+use mathlib.Core.List.{List, [], _∷_, _++_, map, tail, append-assoc, map-append}
 use Prim.Native.Nat.{ℕ, _+_, _-_, _*_, _≤_, _<_}
 use native.Mathlib.Nat.{mul-suc}
 use native.Mathlib.Omega.{arith}
 use lib.Dec.{eqb, leb}
-use lib.ListN.{length, getD, length-append, length-map}
+use lib.ListN.{length, getD, take, drop, length-append, length-map, length-drop, take-append-drop}
 use lib.Seq.{getD-append-add}
 use borrow.Author.Tests.{eq-eqb, ne-eqb, leb-true, le-leb, le-ltb, not-true}
 use Rattle.sets.specs.Lists.{every, anyOf}
@@ -16,20 +16,21 @@ use Rattle.lists.specs.Bytes.{ended, join, close, led}
 use Rattle.lists.proofs.Padding.{every-join}
 use Rattle.decimal.specs.Decimal.{decimal}
 use Rattle.decimal.proofs.Laws.{decimal-every}
-use Rattle.program.specs.Names.{isPlain, isName}
+use Rattle.program.specs.Names.{isPlain, isName, fromWord, toWord, endsDated}
 use Rattle.program.specs.Refusals.{lowest}
-use Rattle.text.specs.Lines.{names, clauseLines, row}
-use Rattle.text.specs.Render.{bookText}
-use Rattle.text.specs.Refusals.{wrongSize, unended, isForeign, hasForeign, tooManyLines, namesBroken, namesEqual, isValue, isRow, clauseBroken, onlyZeros, refusal}
+use Rattle.text.specs.Lines.{firstItems, isDated, names, clauseLines, row}
+use Rattle.text.specs.Render.{bookItems, bookText}
+use Rattle.text.specs.Refusals.{wrongSize, unended, isForeign, hasForeign, tooManyLines, namesBroken, namesEqual, isRow, clauseBroken, onlyZeros, daysReversed, refusal}
 use Rattle.text.proofs.Lists.{every-all, every-map}
-use Rattle.text.proofs.Values.{plainLine, value-short, row-long, row-small}
+use Rattle.text.proofs.Values.{plainLine, value-short, day-short, row-parts}
 use Rattle.text.proofs.Names.{name-parts, name-short}
+use Rattle.text.proofs.Tests.{namesIn}
 use Rattle.text.proofs.Fits.{opened, clear}
-use Rattle.text.proofs.Books.{text-of, lines-are, names-again, rows-again}
+use Rattle.text.proofs.Books.{items-named, items-some, text-of, lines-are, dated-again, names-again, rows-again}
 use Rattle.text.proofs.Tables.{Good}
 
 -- ---- 1: the size
--- pieces of at most k bytes each, a byte between them
+-- pieces of at most k bytes each, a byte in front of each
 led-short : (k : ℕ) (ps : List (List ℕ)) → every (λ p. leb (length p) k) ps ≡ true → length (led 32 ps) ≤ length ps + k * length ps
 unfolding every led
 led-short k [] h = omega arith
@@ -37,43 +38,86 @@ led-short k (p ∷ ps) h =
     let a = both-true (leb (length p) k) (every (λ p. leb (length p) k) ps) h in
     omega (arith, length-append p (led 32 ps), leb-true (length p) k (a .0), led-short k ps (a .1), mul-suc k (length ps))
 
-join-short : (k : ℕ) (ps : List (List ℕ)) → every (λ p. leb (length p) k) ps ≡ true → length (join 32 ps) ≤ length ps + k * length ps
+led-append : (ps qs : List (List ℕ)) → led 32 (ps ++ qs) ≡ led 32 ps ++ led 32 qs
+unfolding led
+led-append [] qs = refl
+led-append (p ∷ ps) qs = ap (λ (xs : List ℕ). 32 ∷ xs) (ap (λ (xs : List ℕ). p ++ xs) (led-append ps qs) ∙ sym (append-assoc p (led 32 ps) (led 32 qs)))
+
+-- a line with the byte that ends it is as long as with a byte in front of each item
+line-led : (ps : List (List ℕ)) → 1 ≤ length ps → length (join 32 ps) + 1 ≡ length (led 32 ps)
 unfolding join led
-join-short k [] h = omega arith
-join-short k (p ∷ ps) h = omega (arith, led-short k (p ∷ ps) h)
+line-led [] h = absurd (omega arith)
+line-led (p ∷ ps) h = omega arith
 
-join-names : (ns : List (List ℕ)) → every isName ns ≡ true → length (join 32 ns) ≤ 9 * length ns
-join-names ns h = omega (arith, join-short 8 ns (every-mono isName (λ p. leb (length p) 8) (λ x t. le-leb (length x) 8 (name-short x t)) ns h))
+decimals-short : (k m : ℕ) → ((v : ℕ) → v ≤ m → length (decimal v) ≤ k) → (vs : List ℕ) → every (λ v. leb v m) vs ≡ true → length (led 32 (map decimal vs)) ≤ length vs + k * length vs
+decimals-short k m f vs h =
+    let e = every-map decimal (λ v. leb v m) (λ p. leb (length p) k) (λ v t. le-leb (length (decimal v)) k (f v (leb-true v m t))) vs h in
+    rw (length-map vs decimal) at (led-short k (map decimal vs) e)
 
-line-short : (vs : List ℕ) → every isValue vs ≡ true → length (plainLine vs) ≤ 3 * length vs
+-- three bytes for each value, six for each day
+line-short : (dated : Bool) (n : ℕ) (vs : List ℕ) → 1 ≤ n → isRow dated n vs ≡ true → length (plainLine vs) + 1 ≤ 3 * n + 6 * cond dated 2 0
 unfolding plainLine
-line-short vs h =
-    let e = every-map decimal isValue (λ p. leb (length p) 2) (λ v t. le-leb (length (decimal v)) 2 (value-short v (leb-true v 63 t))) vs h in
-    omega (arith, join-short 2 (map decimal vs) e, length-map vs decimal)
+line-short dated n vs l h =
+    let t = row-parts dated n vs h in
+    let m : length (map decimal vs) ≡ length vs = length-map vs decimal in
+    let e : map decimal vs ≡ map decimal (take n vs) ++ map decimal (drop n vs) =
+    ap (map decimal) (sym (take-append-drop n vs)) ∙ map-append decimal (take n vs) (drop n vs) in
+    omega (
+      arith,
+      t .long,
+      t .first-n,
+      line-led (map decimal vs) (omega (arith, t .long)),
+      ap (λ (is : List (List ℕ)). length (led 32 is)) e ∙ ap length (led-append (map decimal (take n vs)) (map decimal (drop n vs)))
+          ∙ length-append (led 32 (map decimal (take n vs))) (led 32 (map decimal (drop n vs))),
+      decimals-short 2 63 value-short (take n vs) (t .values),
+      decimals-short 5 65535 day-short (drop n vs) (t .days),
+      length-drop n vs,
+    )
 
-lines-short : (n : ℕ) (vss : List (List ℕ)) → n ≤ 12 → every (isRow n) vss ≡ true → length (close 10 (map plainLine vss)) ≤ 37 * length vss
+two-days : (dated : Bool) → cond dated 2 0 ≤ 2
+two-days true = omega arith
+two-days false = omega arith
+
+lines-short : (dated : Bool) (n : ℕ) (vss : List (List ℕ)) → 1 ≤ n → n ≤ 12 → every (isRow dated n) vss ≡ true → length (close 10 (map plainLine vss)) ≤ 48 * length vss
 unfolding every close
-lines-short n [] l h = omega arith
-lines-short n (r ∷ vss) l h =
-    let a = both-true (isRow n r) (every (isRow n) vss) h in
-    omega (arith, length-append (plainLine r) (10 ∷ close 10 (map plainLine vss)), line-short r (row-small n r (a .0)), row-long n r (a .0), lines-short n vss l (a .1))
+lines-short dated n [] l k h = omega arith
+lines-short dated n (r ∷ vss) l k h =
+    let a = both-true (isRow dated n r) (every (isRow dated n) vss) h in
+    omega (arith, length-append (plainLine r) (10 ∷ close 10 (map plainLine vss)), line-short dated n r l (a .0), two-days dated, lines-short dated n vss l k (a .1))
 
-module _ (ns vss : List (List ℕ)) (g : Good ns vss) where
-  -- no more than 12 * 9 + 1 + 64 * 37 bytes
-  pub text-short : length (bookText ns vss) ≤ 2477
+-- nine bytes for each name, eight for " from to"
+names-short : (dated : Bool) (ns : List (List ℕ)) → 1 ≤ length ns → every isName ns ≡ true → length (join 32 (bookItems dated ns)) + 1 ≤ 9 * length ns + 8
+unfolding bookItems led
+names-short dated ns l h =
+    let e = led-short 8 ns (every-mono isName (λ p. leb (length p) 8) (λ x t. le-leb (length x) 8 (name-short x t)) ns h) in
+    omega (arith, line-led (bookItems dated ns) (items-some dated ns l), go dated e)
+  where
+    go : (d : Bool) → length (led 32 ns) ≤ length ns + 8 * length ns → length (led 32 (cond d (ns ++ fromWord ∷ toWord ∷ []) ns)) ≤ 9 * length ns + 8
+    go true e = omega (arith, ap length (led-append ns (fromWord ∷ toWord ∷ [])), length-append (led 32 ns) (led 32 (fromWord ∷ toWord ∷ [])))
+    go false e = omega arith
+
+module _ (dated : Bool) (ns vss : List (List ℕ)) (g : Good dated ns vss) where
+  -- no more than 12 * 9 + 8 + 64 * 48 bytes
+  pub text-short : length (bookText dated ns vss) ≤ 3188
   unfolding close
   text-short =
       let s = g .short in
       let f = g .few in
-      omega (arith, ap length (text-of ns vss), length-append (join 32 ns) (10 ∷ close 10 (map plainLine vss)), join-names ns (g .named), lines-short (length ns) vss (g .few) (g .ruled))
+      omega (
+        arith,
+        ap length (text-of dated ns vss),
+        length-append (join 32 (bookItems dated ns)) (10 ∷ close 10 (map plainLine vss)),
+        names-short dated ns (g .any) (g .named),
+        lines-short dated (length ns) vss (g .any) (g .few) (g .ruled),
+      )
 
-  text-some : 1 ≤ length (bookText ns vss)
+  text-some : 1 ≤ length (bookText dated ns vss)
   unfolding close
-  text-some = omega (arith, ap length (text-of ns vss), length-append (join 32 ns) (10 ∷ close 10 (map plainLine vss)))
+  text-some = omega (arith, ap length (text-of dated ns vss), length-append (join 32 (bookItems dated ns)) (10 ∷ close 10 (map plainLine vss)))
 
-  test1 : wrongSize (bookText ns vss) ≡ false
+  test1 : wrongSize (bookText dated ns vss) ≡ false
   unfolding wrongSize
-  test1 = rw (ne-eqb (length (bookText ns vss)) 0 (λ e. omega (arith, text-some)), le-ltb 4096 (length (bookText ns vss)) (omega (arith, text-short)))
+  test1 = rw (ne-eqb (length (bookText dated ns vss)) 0 (λ e. omega (arith, text-some)), le-ltb 4096 (length (bookText dated ns vss)) (omega (arith, text-short)))
 
 -- ---- 2: the last byte
 last-append : (xs ys : List ℕ) → 1 ≤ length ys → getD (xs ++ ys) (length (xs ++ ys) - 1) 0 ≡ getD ys (length ys - 1) 0
@@ -93,9 +137,9 @@ close-last p (q ∷ qs) =
     ∙ last-append (10 ∷ []) (close 10 (q ∷ qs)) (close-some q qs)
     ∙ close-last q qs
 
-test2 : (ns vss : List (List ℕ)) → unended (bookText ns vss) ≡ false
+test2 : (dated : Bool) (ns vss : List (List ℕ)) → unended (bookText dated ns vss) ≡ false
 unfolding unended
-test2 ns vss = rw (eq-eqb _ 10 (ap (λ (t : List ℕ). getD t (length t - 1) 0) (text-of ns vss) ∙ close-last (join 32 ns) (map plainLine vss)))
+test2 dated ns vss = rw (eq-eqb _ 10 (ap (λ (t : List ℕ). getD t (length t - 1) 0) (text-of dated ns vss) ∙ close-last (join 32 (bookItems dated ns)) (map plainLine vss)))
 
 -- ---- 3: every byte is the book's own
 unfoldable own : ℕ → Bool
@@ -132,31 +176,35 @@ close-own (r ∷ vss) =
     (every-join own 32 own-space (map decimal r) (decimals-own r))
     (rw (own-end, close-own vss))
 
-test3 : (ns vss : List (List ℕ)) → every isName ns ≡ true → hasForeign (bookText ns vss) ≡ false
+test3 : (dated : Bool) (ns vss : List (List ℕ)) → every isName ns ≡ true → hasForeign (bookText dated ns vss) ≡ false
 unfolding hasForeign close every
-test3 ns vss h = ap (anyOf isForeign) (text-of ns vss) ∙ none-foreign _ (every-append own (join 32 ns) (10 ∷ close 10 (map plainLine vss))
-    (every-join own 32 own-space ns (every-mono isName (every own) (λ x k. every-mono isPlain own plain-own x (name-parts x k .plain)) ns h))
+test3 dated ns vss h =
+    let is = bookItems dated ns in
+    ap (anyOf isForeign) (text-of dated ns vss) ∙ none-foreign _ (every-append own (join 32 is) (10 ∷ close 10 (map plainLine vss))
+    (every-join own 32 own-space is (every-mono isName (every own) (λ x k. every-mono isPlain own plain-own x (name-parts x k .plain)) is (items-named dated ns h)))
     (rw (own-end, close-own vss)))
 
 -- the text of good names and rows is accepted
-pub accept-text : (ns vss : List (List ℕ)) → Good ns vss → refusal (bookText ns vss) ≡ 0
-unfolding refusal lowest tooManyLines namesBroken namesEqual clauseBroken onlyZeros
-accept-text ns vss g =
-    let ls = lines-are ns vss (g .named) in
-    let c : length (ended 10 (bookText ns vss)) ≤ 65 = omega (arith, ap length ls, length-map vss plainLine, g .short) in
+pub accept-text : (dated : Bool) (ns vss : List (List ℕ)) → Good dated ns vss → refusal (bookText dated ns vss) ≡ 0
+unfolding refusal lowest tooManyLines namesBroken namesEqual clauseBroken onlyZeros daysReversed
+accept-text dated ns vss g =
+    let ls = lines-are dated ns vss (g .named) in
+    let c : length (ended 10 (bookText dated ns vss)) ≤ 65 = omega (arith, ap length ls, length-map vss plainLine, g .short) in
     rw (
-      test1 ns vss g,
-      test2 ns vss,
-      test3 ns vss (g .named),
-      le-ltb 65 (length (ended 10 (bookText ns vss))) c,
-      names-again ns vss (g .any) (g .named),
+      test1 dated ns vss g,
+      test2 dated ns vss,
+      test3 dated ns vss (g .named),
+      le-ltb 65 (length (ended 10 (bookText dated ns vss))) c,
+      names-again dated ns vss (g .named) (g .any) (g .ending),
+      dated-again dated ns vss (g .named) (g .any) (g .ending),
       le-leb 1 (length ns) (g .any),
       le-leb (length ns) 12 (g .few),
       g .named,
       g .apart,
-      rows-again (length ns) ns vss (g .any) (g .named) (g .ruled),
+      rows-again dated ns vss (g .named) (length ns) (g .any) (g .ruled),
       g .ruled,
       g .told,
+      g .ordered,
     )
 
 -- ---- an accepted text has good names and rows
@@ -164,8 +212,16 @@ tail-long : (ls : List (List ℕ)) → length ls ≤ 65 → length (tail ls) ≤
 tail-long [] h = omega arith
 tail-long (l ∷ ls) h = omega arith
 
-pub good-read : (b : List ℕ) → refusal b ≡ 0 → Good (names b) (map row (clauseLines b))
-unfolding clauseLines
+-- where the items do not end in "from to", neither do the names
+names-ending : (is : List (List ℕ)) → endsDated is || not (endsDated (namesIn is)) ≡ true
+names-ending is = go (endsDated is) refl
+  where
+    go : (d : Bool) → endsDated is ≡ d → d || not (endsDated (cond d (take (length is - 2) is) is)) ≡ true
+    go true e = refl
+    go false e = ap not e
+
+pub good-read : (b : List ℕ) → refusal b ≡ 0 → Good (isDated b) (names b) (map row (clauseLines b))
+unfolding names isDated clauseLines onlyZeros daysReversed
 good-read b h =
     let c = clear b h in
     let f = opened b (c .opening) in
@@ -174,7 +230,9 @@ good-read b h =
       few = f .few;
       named = f .named;
       apart = f .apart;
+      ending = names-ending (firstItems b);
       short = omega (arith, length-map (tail (ended 10 b)) row, tail-long (ended 10 b) (f .many));
       ruled = c .ruled;
       told = c .told;
+      ordered = c .ordered;
     }

@@ -1,19 +1,19 @@
--- What the first six tests have shown of a text, and what all eight have, where none applies. Assumes nothing.
+-- What the first six tests have shown of a text, and what all nine have, where none applies. Assumes nothing.
 use mathlib.Core.Path.{_≡_, refl}
 use mathlib.Core.Bool.{Bool, true, false, cond, _&&_}
 use mathlib.Core.List.{List, [], _∷_, _++_, map}
 use Prim.Native.Nat.{ℕ, suc, _+_, _≤_}
 use native.Mathlib.Omega.{arith}
-use lib.Dec.{eqb, leb}
+use lib.Dec.{leb}
 use lib.ListN.{length}
 use borrow.Author.Tests.{not-false, leb-true, ltb-false}
-use Rattle.sets.specs.Lists.{every, anyOf}
+use Rattle.sets.specs.Lists.{every}
 use Rattle.sets.proofs.Tests.{both-true}
 use Rattle.lists.specs.Bytes.{distinct, ended}
 use Rattle.program.specs.Names.{isName}
 use Rattle.program.specs.Refusals.{lowest}
-use Rattle.text.specs.Lines.{HasLine, names, clauseLines, row}
-use Rattle.text.specs.Refusals.{wrongSize, unended, hasForeign, tooManyLines, namesBroken, namesEqual, isRow, clauseBroken, onlyZeros, opening, openingRefusal, refusal}
+use Rattle.text.specs.Lines.{HasLine, isDated, names, clauseLines, row}
+use Rattle.text.specs.Refusals.{wrongSize, unended, hasForeign, tooManyLines, namesBroken, namesEqual, isRow, clauseBroken, onlyZeros, daysReversed, opening, openingRefusal, refusal}
 use Rattle.text.proofs.Tests.{plain-line}
 
 cond-zero : (t : Bool) (n r : ℕ) → cond t (suc n) r ≡ 0 → (t ≡ false) × (r ≡ 0)
@@ -59,8 +59,8 @@ module _ (b : List ℕ) where
   unfolding openingRefusal lowest
   six z = none-of _ _ _ _ _ _ 0 z
 
-  -- 7 and 8 decide where none of the first six applies
-  pub late : openingRefusal b ≡ 0 → refusal b ≡ lowest ((7, clauseBroken b) ∷ (8, onlyZeros b) ∷ [])
+  -- 7, 8 and 22 decide where none of the first six applies
+  pub late : openingRefusal b ≡ 0 → refusal b ≡ lowest ((7, clauseBroken b) ∷ (8, onlyZeros b) ∷ (22, daysReversed b) ∷ [])
   unfolding refusal lowest
   late z = let t = six z in rw (t .t1, t .t2, t .t3, t .t4, t .t5, t .t6)
 
@@ -96,16 +96,19 @@ module _ (b : List ℕ) where
   -- a text that no refusal meets
   pub record Clear : Type 0 where
     pub opening : openingRefusal b ≡ 0
-    pub ruled : every (isRow (length (names b))) (map row (clauseLines b)) ≡ true
-    pub told : anyOf (every (eqb 0)) (map row (clauseLines b)) ≡ false
+    pub ruled : every (isRow (isDated b) (length (names b))) (map row (clauseLines b)) ≡ true
+    pub told : onlyZeros b ≡ false
+    pub ordered : daysReversed b ≡ false
 
   pub clear : refusal b ≡ 0 → Clear
-  unfolding refusal openingRefusal lowest clauseBroken onlyZeros
+  unfolding refusal openingRefusal lowest clauseBroken
   clear h =
-      let t : Six (lowest ((7, clauseBroken b) ∷ (8, onlyZeros b) ∷ [])) = none-of _ _ _ _ _ _ _ h in
+      let t : Six (lowest ((7, clauseBroken b) ∷ (8, onlyZeros b) ∷ (22, daysReversed b) ∷ [])) = none-of _ _ _ _ _ _ _ h in
       let s7 = cond-zero (clauseBroken b) 6 _ (t .rest) in
+      let s8 = cond-zero (onlyZeros b) 7 _ (s7 .1) in
       record {
         opening = rw (t .t1, t .t2, t .t3, t .t4, t .t5, t .t6);
         ruled = not-false _ (s7 .0);
-        told = cond-zero (onlyZeros b) 7 0 (s7 .1) .0;
+        told = s8 .0;
+        ordered = cond-zero (daysReversed b) 21 0 (s8 .1) .0;
       }

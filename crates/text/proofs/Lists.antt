@@ -32,6 +32,12 @@ module _ {A B : Type 0} (f : A → B) where
     map-back g h [] e = refl
     map-back g h (x ∷ xs) e = let a = both-true (p x) (every p xs) e in rw (h x (a .0), map-back g h xs (a .1))
 
+    -- what fails of every f x
+    pub none-map : (q : B → Bool) → ((x : A) → p x ≡ true → q (f x) ≡ false) → (xs : List A) → every p xs ≡ true → anyOf q (map f xs) ≡ false
+    unfolding every anyOf
+    none-map q h [] e = refl
+    none-map q h (x ∷ xs) e = let a = both-true (p x) (every p xs) e in rw (h x (a .0), none-map q h xs (a .1))
+
 -- f is one to one on what passes p
 module _ (f : List ℕ → List ℕ) (p : List ℕ → Bool) (one : (x y : List ℕ) → p x ≡ true → p y ≡ true → f x ≡ f y → x ≡ y) where
   differ : (x y : List ℕ) → p x ≡ true → p y ≡ true → same x y ≡ false → same (f x) (f y) ≡ false

@@ -1,47 +1,56 @@
--- Tables to names and clauses, clauses to rows of values, and back. Assumes nothing.
+-- Tables to names and rows, rows to the numbers of lines, and back. Assumes nothing.
 use mathlib.Core.Path.{_≡_, refl, sym, ap, ap₂, _∙_}
-use mathlib.Core.Bool.{Bool, true, false, not, _&&_}
+use mathlib.Core.Bool.{Bool, true, false, cond, not, _&&_, _||_, and-false}
 use mathlib.Core.Logic.{⊎-elim}
 use mathlib.Core.List.{List, [], _∷_, _++_, map, flatMap, append-assoc}
 use Prim.Native.Nat.{ℕ, zero, suc, _+_, _-_, _*_, _/_, _%_, _^_, _≤_, _<_}
 use native.Mathlib.Nat.{add-zero, zero-add, zero-div, div-div-eq-div-mul, pow-suc}
-use native.Mathlib.Numerals.{add-one}
 use native.Mathlib.Omega.{arith}
-use lib.Dec.{eqb, ltb}
-use lib.ListN.{length, getD, take, drop, replicate, length-map, List·getD-map}
-use lib.Seq.{take-at, drop-at, take-add, drop-drop, drop-cons, getD-drop}
-use borrow.Author.Tests.{eqb-true, eq-eqb, ltb-true, lt-ltb, leb-true, le-leb}
-use Rattle.sets.specs.Lists.{every, anyOf, upFrom, tabulate}
-use Rattle.sets.proofs.Tests.{dec, clash, both-true, both-false}
-use Rattle.sets.proofs.Lists.{length-upFrom, map-upFrom}
+use lib.Dec.{eqb, leb, ltb}
+use lib.ListN.{length, getD, take, drop, replicate, length-map, length-append, length-drop, take-append-drop, drop-of-length-le, List·getD-map, List·getD-eq-default}
+use lib.Seq.{take-at, drop-at, take-add, drop-drop, drop-cons, getD-drop, getD-append-add}
+use borrow.Author.Tests.{eqb-true, eq-eqb, ltb-true, ltb-false, lt-ltb, le-ltb, leb-true, le-leb}
+use Rattle.sets.specs.Lists.{_∈_, Each, every, anyOf, upFrom, tabulate}
+use Rattle.sets.proofs.Tests.{dec, clash, both-true, and-is-true}
+use Rattle.sets.proofs.Lists.{length-upFrom, map-upFrom, upFrom-ext, upFrom-in, length-tabulate, every-each, each-every, none-each, map-in, in-at}
 use Rattle.lists.specs.Bytes.{index, distinct, padded}
 use Rattle.lists.proofs.Pieces.{index-le}
-use Rattle.lists.proofs.Padding.{padded-long, padded-back, padded-tail, zeros-are}
+use Rattle.lists.proofs.Padding.{padded-long, padded-at, padded-back, padded-tail, zeros-are}
 use Rattle.program.specs.declared.Program.{Program}
-use Rattle.program.specs.Clauses.{Clause, clauseAt, rows}
+use Rattle.program.specs.Clauses.{Clause, Row, rowAt, rows}
 use Rattle.program.specs.Held.{holding, released}
-use Rattle.program.specs.Names.{isName, place, nameAt, namesOf}
+use Rattle.program.specs.Names.{isName, place, nameAt, namesOf, endsDated}
+use Rattle.program.specs.Only.{withRows}
 use Rattle.program.specs.Values.{isWord, valueIn, wordOf, bitsOf, wordBy, clauseOfValues, clauseValue, clauseValues}
-use Rattle.program.specs.Valid.{zeroFrom, isPlace, namesValid, isClause, clausesValid, heldValid, valid, Sized}
+use Rattle.program.specs.Valid.{zeroFrom, isPlace, namesValid, isClause, daysFit, valid, Sized}
 use Rattle.program.proofs.Places.{place-long}
 use Rattle.program.proofs.Values.{value-lt}
-use Rattle.program.proofs.Validity.{valid-names, valid-clauses, clause-below}
+use Rattle.program.proofs.Days.{length-rows}
+use Rattle.program.proofs.Validity.{valid-names, valid-clauses, valid-days, clause-below, DaysParts, days-parts, days-fit}
+use Rattle.program.proofs.Chosen.{up-is, rows-are, rows-valid, row-clause, row-days}
 use Rattle.text.specs.Tables.{placed, tableOf}
-use Rattle.text.specs.Refusals.{isValue, isRow}
-use Rattle.text.specs.Render.{valuesOf}
-use Rattle.text.proofs.Lists.{every-all, every-map, map-back, distinct-map}
-use Rattle.text.proofs.Values.{row-long, row-small}
+use Rattle.text.specs.Refusals.{isValue, isDay, isRow}
+use Rattle.text.specs.Render.{rowNumbers, numbersOf}
+use Rattle.text.specs.Reading.{rowOfNumbers}
+use Rattle.text.proofs.Lists.{every-of-map, every-all, every-map, none-map, map-back, distinct-map}
+use Rattle.text.proofs.Values.{RowParts, row-parts}
 use Rattle.text.proofs.Names.{name-short, placed-long, index-name, trim}
 
+-- the numbers of a line with a first day after its last
+abbrev pub reversed : ℕ → List ℕ → Bool
+reversed n vs = ltb (getD vs (n + 1) 0) (getD vs n 0)
+
 -- names and rows as a book has them
-pub record Good (ns vss : List (List ℕ)) : Type 0 where
+pub record Good (dated : Bool) (ns vss : List (List ℕ)) : Type 0 where
   pub any : 1 ≤ length ns
   pub few : length ns ≤ 12
   pub named : every isName ns ≡ true
   pub apart : distinct ns ≡ true
+  pub ending : dated || not (endsDated ns) ≡ true
   pub short : length vss ≤ 64
-  pub ruled : every (isRow (length ns)) vss ≡ true
-  pub told : anyOf (every (eqb 0)) vss ≡ false
+  pub ruled : every (isRow dated (length ns)) vss ≡ true
+  pub told : anyOf (λ vs. every (eqb 0) (take (length ns) vs)) vss ≡ false
+  pub ordered : dated && anyOf (reversed (length ns)) vss ≡ false
 
 -- ---- the names of a table
 names-up : (Y zs : List ℕ) (ns : List (List ℕ)) (i : ℕ) → every isName ns ≡ true → drop (8 * i) Y ≡ placed ns ++ zs → upFrom (place Y) (length ns) i ≡ map (padded 8) ns
@@ -72,9 +81,13 @@ names-are-named : (Y : List ℕ) (k i : ℕ) → upFrom (nameAt Y) k i ≡ map n
 unfolding nameAt
 names-are-named Y k i = sym (map-upFrom named (place Y) k i)
 
-pub names-of-table : (ns : List (List ℕ)) (cs : List Clause) → every isName ns ≡ true → namesOf (tableOf ns cs) ≡ ns
-unfolding namesOf tableOf tabulate
-names-of-table ns cs h = names-are-named (padded 96 (placed ns)) (length ns) 0 ∙ ap (map named) (places-of ns h) ∙ trims ns h
+names-there : (ns : List (List ℕ)) → every isName ns ≡ true → tabulate (nameAt (padded 96 (placed ns))) (length ns) ≡ ns
+unfolding tabulate
+names-there ns h = names-are-named (padded 96 (placed ns)) (length ns) 0 ∙ ap (map named) (places-of ns h) ∙ trims ns h
+
+pub names-of-table : (dated : Bool) (ns : List (List ℕ)) (R : List Row) → every isName ns ≡ true → namesOf (tableOf dated ns R) ≡ ns
+unfolding namesOf tableOf
+names-of-table dated ns R h = names-there ns h
 
 -- ---- the values of a clause that is made of values
 bits-suc : (w i : ℕ) → valueIn w (suc i) ≡ valueIn (w / 4) i
@@ -103,63 +116,55 @@ word-at k vs i z =
     word-in (map (bitsOf k) vs) i (small-bits k vs)
     ∙ ap (getD (map (bitsOf k) vs) i) (sym z) ∙ List·getD-map (bitsOf k) vs i 0
 
-small-at : (vs : List ℕ) (i : ℕ) → every isValue vs ≡ true → getD vs i 0 ≤ 63
+small-at : (m : ℕ) (vs : List ℕ) (i : ℕ) → every (λ v. leb v m) vs ≡ true → getD vs i 0 ≤ m
 unfolding every
-small-at [] i h = omega arith
-small-at (v ∷ vs) zero h = leb-true v 63 (both-true (isValue v) (every isValue vs) h .0)
-small-at (v ∷ vs) (suc i) h = small-at vs i (both-true (isValue v) (every isValue vs) h .1)
+small-at m [] i h = omega arith
+small-at m (v ∷ vs) zero h = leb-true v m (both-true (leb v m) (every (λ v. leb v m) vs) h .0)
+small-at m (v ∷ vs) (suc i) h = small-at m vs i (both-true (leb v m) (every (λ v. leb v m) vs) h .1)
 
 value-is : (vs : List ℕ) (i : ℕ) → every isValue vs ≡ true → clauseValue (clauseOfValues vs) i ≡ getD vs i 0
 unfolding clauseOfValues clauseValue bitsOf
-value-is vs i h = omega (arith, word-at 1 vs i refl, word-at 4 vs i refl, word-at 16 vs i refl, small-at vs i h)
+value-is vs i h = omega (arith, word-at 1 vs i refl, word-at 4 vs i refl, word-at 16 vs i refl, small-at 63 vs i h)
 
-up-is : (f : ℕ → ℕ) (vs : List ℕ) (i : ℕ) → ((j : ℕ) → f (i + j) ≡ getD vs j 0) → upFrom f (length vs) i ≡ vs
-unfolding upFrom
-up-is f [] i h = refl
-up-is f (v ∷ vs) i h = ap₂ (λ (x : ℕ) (xs : List ℕ). x ∷ xs) (ap f (sym (add-zero i)) ∙ h 0)
-    (up-is f vs (suc i) (λ j. let e : suc i + j ≡ i + suc j = omega arith in ap f e ∙ h (suc j)))
-
-values-of : (n : ℕ) (vs : List ℕ) → isRow n vs ≡ true → clauseValues n (clauseOfValues vs) ≡ vs
+values-of : (vs : List ℕ) → every isValue vs ≡ true → clauseValues (length vs) (clauseOfValues vs) ≡ vs
 unfolding clauseValues tabulate
-values-of n vs h =
-    let f = clauseValue (clauseOfValues vs) in
-    ap (λ (m : ℕ). upFrom f m 0) (sym (row-long n vs h)) ∙ up-is f vs 0 (λ j. ap f (zero-add j) ∙ value-is vs j (row-small n vs h))
+values-of vs h = up-is (clauseValue (clauseOfValues vs)) 0 vs 0 (λ j m. ap (clauseValue (clauseOfValues vs)) (zero-add j) ∙ value-is vs j h)
 
-pub all-values : (n : ℕ) (vss : List (List ℕ)) → every (isRow n) vss ≡ true → map (clauseValues n) (map clauseOfValues vss) ≡ vss
-all-values n = map-back clauseOfValues (isRow n) (clauseValues n) (values-of n)
+-- behind the values of a line stand its two days, or nothing
+days-behind : (dated : Bool) (n : ℕ) (vs : List ℕ) → length vs ≡ n + cond dated 2 0 → cond dated (getD vs n 0 ∷ getD vs (n + 1) 0 ∷ []) [] ≡ drop n vs
+days-behind true n vs l =
+    let q : suc n ≡ n + 1 = omega arith in
+    let e : drop (suc (suc n)) vs ≡ [] = drop-of-length-le vs {i = suc (suc n)} (omega arith) in
+    sym (drop-cons vs n 0 (omega arith)
+    ∙ ap (λ (xs : List ℕ). getD vs n 0 ∷ xs) (drop-cons vs (suc n) 0 (omega arith) ∙ ap₂ (λ (x : ℕ) (xs : List ℕ). x ∷ xs) (ap (λ (j : ℕ). getD vs j 0) q) e))
+days-behind false n vs l = sym (drop-of-length-le vs {i = n} (omega arith))
 
--- ---- the clauses of a table
+-- the numbers of a row that is made of numbers
+module _ (dated : Bool) (n : ℕ) where
+  numbers-are : (vs : List ℕ) → isRow dated n vs ≡ true → rowNumbers dated n (rowOfNumbers n vs) ≡ vs
+  unfolding rowNumbers rowOfNumbers
+  numbers-are vs h =
+      let t = row-parts dated n vs h in
+      ap₂ _++_ (ap (λ (m : ℕ). clauseValues m (clauseOfValues (take n vs))) (sym (t .first-n)) ∙ values-of (take n vs) (t .values)) (days-behind dated n vs (t .long))
+      ∙ take-append-drop n vs
 
-first-of : (H : List ℕ) (w : ℕ) (r : List ℕ) (i : ℕ) → drop i H ≡ w ∷ r → getD H i 0 ≡ w
-first-of H w r i e = ap (λ (n : ℕ). getD H n 0) (sym (add-zero i)) ∙ sym (getD-drop i H 0 0) ∙ ap (λ (l : List ℕ). getD l 0 0) e
+  pub all-numbers : (vss : List (List ℕ)) → every (isRow dated n) vss ≡ true → map (rowNumbers dated n) (map (rowOfNumbers n) vss) ≡ vss
+  all-numbers = map-back (rowOfNumbers n) (isRow dated n) (rowNumbers dated n) numbers-are
 
-rest-of : (H : List ℕ) (w : ℕ) (r : List ℕ) (i : ℕ) → drop i H ≡ w ∷ r → drop (suc i) H ≡ r
-rest-of H w r i e = ap (λ (n : ℕ). drop n H) (sym (add-one i)) ∙ sym (drop-drop 1 i H) ∙ ap (drop 1) e
+-- ---- the rows of a table
+-- the table of names and rows is the one without rows, with these
+with-rows : (dated : Bool) (ns : List (List ℕ)) (R : List Row) → tableOf dated ns R ≡ withRows (tableOf dated ns []) R
+unfolding tableOf withRows
+with-rows dated ns R = refl
 
--- columns that begin with the parts of some clauses hold those clauses
-clauses-up : (H B F x y z : List ℕ) (cs : List Clause) (i : ℕ)
-    → drop i H ≡ map (λ c. c .head) cs ++ x → drop i B ≡ map (λ c. c .body) cs ++ y → drop i F ≡ map (λ c. c .naf) cs ++ z
-    → upFrom (clauseAt H B F) (length cs) i ≡ cs
-unfolding upFrom
-clauses-up H B F x y z [] i a b c = refl
-clauses-up H B F x y z (r ∷ cs) i a b c =
-    ap₂ (λ (l : Clause) (ls : List Clause). l ∷ ls)
-    (rw (first-of H _ _ i a, first-of B _ _ i b, first-of F _ _ i c))
-    (clauses-up H B F x y z cs (suc i) (rest-of H _ _ i a) (rest-of B _ _ i b) (rest-of F _ _ i c))
+pub rows-of-table : (dated : Bool) (ns : List (List ℕ)) (R : List Row) → rows (tableOf dated ns R) ≡ R
+rows-of-table dated ns R = ap rows (with-rows dated ns R) ∙ rows-are (tableOf dated ns []) R
 
-clauses-of : (cs : List Clause) → tabulate (clauseAt (padded 64 (map (λ c. c .head) cs)) (padded 64 (map (λ c. c .body) cs)) (padded 64 (map (λ c. c .naf) cs))) (length cs) ≡ cs
-unfolding padded tabulate
-clauses-of cs = clauses-up _ _ _ _ _ _ cs 0 refl refl refl
+pub numbers-of-table : (dated : Bool) (ns vss : List (List ℕ)) → every (isRow dated (length ns)) vss ≡ true → numbersOf (tableOf dated ns (map (rowOfNumbers (length ns)) vss)) ≡ vss
+unfolding numbersOf tableOf
+numbers-of-table dated ns vss h = ap (map (rowNumbers dated (length ns))) (rows-of-table dated ns (map (rowOfNumbers (length ns)) vss)) ∙ all-numbers dated (length ns) vss h
 
-pub rows-of-table : (ns : List (List ℕ)) (cs : List Clause) → rows (tableOf ns cs) ≡ cs
-unfolding rows tableOf
-rows-of-table ns cs = clauses-of cs
-
-pub values-of-table : (ns vss : List (List ℕ)) → every (isRow (length ns)) vss ≡ true → valuesOf (tableOf ns (map clauseOfValues vss)) ≡ vss
-unfolding valuesOf rows tableOf
-values-of-table ns vss h = ap (map (clauseValues (length ns))) (clauses-of (map clauseOfValues vss)) ∙ all-values (length ns) vss h
-
--- ---- a valid table is the table of its names and clauses
+-- ---- a valid table is the table of its names and rows
 place-back : (P : List ℕ) → length P ≡ 8 → isPlace P ≡ true → padded 8 (named P) ≡ P
 unfolding isPlace zeroFrom
 place-back P l h =
@@ -224,8 +229,73 @@ module _ (n : ℕ) (c : Clause) where
   unfolding clauseOfValues
   clause-back h = let s = clause-below n c h in rw (head-back (s .heads), body-back (s .bodies), naf-back (s .nafs))
 
-clauses-back : (n : ℕ) (cs : List Clause) → every (isClause n) cs ≡ true → map clauseOfValues (map (clauseValues n) cs) ≡ cs
-clauses-back n = map-back (clauseValues n) (isClause n) clauseOfValues (clause-back n)
+-- a row that a table for n names may have
+abbrev fitting : Bool → ℕ → Row → Bool
+fitting dated n r = isClause n (r .clause) && daysFit dated (r .first) (r .last) && isDay (r .last)
+
+record FittingParts (dated : Bool) (n : ℕ) (r : Row) : Type 0 where
+  pub clause : isClause n (r .clause) ≡ true
+  pub days : DaysParts dated (r .first) (r .last)
+  pub small : r .last ≤ 65535
+
+fitting-parts : (dated : Bool) (n : ℕ) (r : Row) → fitting dated n r ≡ true → FittingParts dated n r
+fitting-parts dated n r h =
+    let a = both-true (isClause n (r .clause) && daysFit dated (r .first) (r .last)) (isDay (r .last)) h in
+    let b = both-true (isClause n (r .clause)) (daysFit dated (r .first) (r .last)) (a .0) in
+    record { clause = b .0; days = days-parts dated (r .first) (r .last) (b .1); small = leb-true (r .last) 65535 (a .1) }
+
+values-long : (n : ℕ) (c : Clause) → length (clauseValues n c) ≡ n
+unfolding clauseValues tabulate
+values-long n c = length-upFrom (clauseValue c) n 0
+
+-- the days on the line of a row
+abbrev days-of : Bool → Row → List ℕ
+days-of dated r = cond dated (r .first ∷ r .last ∷ []) []
+
+days-long : (dated : Bool) (r : Row) → length (days-of dated r) ≡ cond dated 2 0
+days-long true r = refl
+days-long false r = refl
+
+-- the numbers of a row: its values, and the days behind them
+module _ (dated : Bool) (n : ℕ) (r : Row) where
+  first-numbers : take n (rowNumbers dated n r) ≡ clauseValues n (r .clause)
+  unfolding rowNumbers
+  first-numbers = take-at (clauseValues n (r .clause)) (days-of dated r) n (values-long n (r .clause))
+
+  last-numbers : drop n (rowNumbers dated n r) ≡ days-of dated r
+  unfolding rowNumbers
+  last-numbers = drop-at (clauseValues n (r .clause)) (days-of dated r) n (values-long n (r .clause))
+
+  numbers-long : length (rowNumbers dated n r) ≡ n + cond dated 2 0
+  unfolding rowNumbers
+  numbers-long = omega (arith, length-append (clauseValues n (r .clause)) (days-of dated r), values-long n (r .clause), days-long dated r)
+
+  number-at : (k j : ℕ) → k ≡ n + j → getD (rowNumbers dated n r) k 0 ≡ getD (days-of dated r) j 0
+  unfolding rowNumbers
+  number-at k j e =
+      let vs = clauseValues n (r .clause) in
+      let q : k ≡ length vs + j = omega (arith, values-long n (r .clause)) in
+      ap (λ (i : ℕ). getD (vs ++ days-of dated r) i 0) q ∙ getD-append-add vs (days-of dated r) j 0
+
+-- the days of a row that fits are read back, 0 where there are none
+day-one : (dated : Bool) (r : Row) → DaysParts dated (r .first) (r .last) → getD (days-of dated r) 0 0 ≡ r .first
+day-one true r t = refl
+day-one false r t = sym (t .none refl .0)
+
+day-two : (dated : Bool) (r : Row) → DaysParts dated (r .first) (r .last) → getD (days-of dated r) 1 0 ≡ r .last
+day-two true r t = refl
+day-two false r t = sym (t .none refl .1)
+
+row-again : (dated : Bool) (n : ℕ) (r : Row) → fitting dated n r ≡ true → rowOfNumbers n (rowNumbers dated n r) ≡ r
+unfolding rowOfNumbers
+row-again dated n r h =
+    let t = fitting-parts dated n r h in
+    rw (
+      first-numbers dated n r,
+      clause-back n (r .clause) (t .clause),
+      number-at dated n r n 0 (omega arith) ∙ day-one dated r (t .days),
+      number-at dated n r (n + 1) 1 refl ∙ day-two dated r (t .days),
+    )
 
 up-take : (H : List ℕ) (m i : ℕ) → i + m ≤ length H → upFrom (λ j. getD H j 0) m i ≡ take m (drop i H)
 unfolding upFrom
@@ -233,10 +303,16 @@ up-take H zero i h = refl
 up-take H (suc m) i h =
     ap (λ (xs : List ℕ). getD H i 0 ∷ xs) (up-take H m (suc i) (omega arith)) ∙ ap (take (suc m)) (sym (drop-cons H i 0 (omega arith)))
 
--- a column with zeros from m on is its first m words, padded
-column-is : (H : List ℕ) (m : ℕ) → length H ≡ 64 → m ≤ 64 → zeroFrom m H ≡ true → padded 64 (upFrom (λ j. getD H j 0) m 0) ≡ H
+-- zeros from m on
+zeros-from : (H : List ℕ) (m : ℕ) → ((j : ℕ) → m ≤ j → j < length H → getD H j 0 ≡ 0) → zeroFrom m H ≡ true
 unfolding zeroFrom
-column-is H m l b z = ap (padded 64) (up-take H m 0 (omega arith)) ∙ padded-back 64 m H l b z
+zeros-from H m h = each-every (eqb 0) (drop m H) (λ x i.
+    let s = in-at (drop m H) 0 x i in
+    eq-eqb 0 x (sym (sym (s .2) ∙ getD-drop m H (s .0) 0 ∙ h (m + s .0) (omega arith) (omega (arith, s .1, length-drop m H)))))
+
+pub names-long : (p : Program) → length (namesOf p) ≡ p .«atom_count»
+unfolding namesOf
+names-long p = length-tabulate (nameAt (p .«atom_names»)) (p .«atom_count»)
 
 module _ (p : Program) (s : Sized p) (v : valid p ≡ true) where
   names-column : padded 96 (placed (namesOf p)) ≡ p .«atom_names»
@@ -249,28 +325,50 @@ module _ (p : Program) (s : Sized p) (v : valid p ≡ true) where
       ∙ ap (padded 96) (places-back Y n 0 (omega (arith, t .few, s .names)) (t .named))
       ∙ padded-back 96 (8 * n) Y (s .names) (omega (arith, t .few)) (t .blank)
 
-  -- the table of its names and clauses is the table with nothing held
-  pub table-back : tableOf (namesOf p) (rows p) ≡ released p
-  unfolding tableOf released holding namesOf rows tabulate
+  -- a column with zeros behind the rows is theirs, padded
+  column-is : (H : List ℕ) (f : Row → ℕ) → ((j : ℕ) → f (rowAt p j) ≡ getD H j 0) → length H ≡ 64 → zeroFrom (p .«clause_count») H ≡ true → padded 64 (map f (rows p)) ≡ H
+  unfolding rows tabulate zeroFrom
+  column-is H f e l z =
+      let m = p .«clause_count» in
+      let b = valid-clauses p v .short in
+      ap (padded 64) (map-upFrom f (rowAt p) m 0 ∙ upFrom-ext (λ j. f (rowAt p j)) (λ j. getD H j 0) m 0 (λ j h. e j) ∙ up-take H m 0 (omega arith))
+      ∙ padded-back 64 m H l b z
+
+  -- no days behind the rows
+  no-days : (k : ℕ) → p .«clause_count» ≤ k → k < 64 → (getD (p .firsts) k 0 ≡ 0) × (getD (p .lasts) k 0 ≡ 0)
+  no-days k h l = days-parts _ (getD (p .firsts) k 0) (getD (p .lasts) k 0) (valid-days p v k l) .none (rw (le-ltb k (p .«clause_count») h, and-false))
+
+  -- the table of its names and rows is the table with nothing held
+  pub table-back : tableOf (p .dated) (namesOf p) (rows p) ≡ released p
+  unfolding tableOf released holding
   table-back =
       let t = valid-clauses p v in
-      let n = p .«atom_count» in
-      let m = p .«clause_count» in
-      let cl = clauseAt (p .heads) (p .bodies) (p .nafs) in
-      let e1 : length (upFrom (nameAt (p .«atom_names»)) n 0) ≡ n = length-upFrom (nameAt (p .«atom_names»)) n 0 in
-      let e3 : length (upFrom cl m 0) ≡ m = length-upFrom cl m 0 in
-      let e4 : padded 64 (map (λ c. c .head) (upFrom cl m 0)) ≡ p .heads =
-      ap (padded 64) (map-upFrom (λ c. c .head) cl m 0) ∙ column-is (p .heads) m (s .heads) (t .short) (t .no-heads) in
-      let e5 : padded 64 (map (λ c. c .body) (upFrom cl m 0)) ≡ p .bodies =
-      ap (padded 64) (map-upFrom (λ c. c .body) cl m 0) ∙ column-is (p .bodies) m (s .bodies) (t .short) (t .no-bodies) in
-      let e6 : padded 64 (map (λ c. c .naf) (upFrom cl m 0)) ≡ p .nafs =
-      ap (padded 64) (map-upFrom (λ c. c .naf) cl m 0) ∙ column-is (p .nafs) m (s .nafs) (t .short) (t .no-nafs) in
-      rw (e1, names-column, e3, e4, e5, e6)
+      let e1 : length (namesOf p) ≡ p .«atom_count» = names-long p in
+      let e2 : length (rows p) ≡ p .«clause_count» = length-rows p in
+      rw (
+        e1,
+        names-column,
+        e2,
+        column-is (p .heads) (λ r. r .clause .head) (λ j. refl) (s .heads) (t .no-heads),
+        column-is (p .bodies) (λ r. r .clause .body) (λ j. refl) (s .bodies) (t .no-bodies),
+        column-is (p .nafs) (λ r. r .clause .naf) (λ j. refl) (s .nafs) (t .no-nafs),
+        column-is (p .firsts) (λ r. r .first) (λ j. refl) (s .firsts) (zeros-from (p .firsts) (p .«clause_count») (λ j h l. no-days j h (omega (arith, s .firsts)) .0)),
+        column-is (p .lasts) (λ r. r .last) (λ j. refl) (s .lasts) (zeros-from (p .lasts) (p .«clause_count») (λ j h l. no-days j h (omega (arith, s .lasts)) .1)),
+      )
 
-  -- each clause is the clause with its values
-  pub clauses-again : map clauseOfValues (valuesOf p) ≡ rows p
-  unfolding valuesOf rows
-  clauses-again = clauses-back (p .«atom_count») _ (valid-clauses p v .ruled)
+  last-small : (r : Row) → r ∈ rows p → r .last ≤ 65535
+  unfolding rows tabulate
+  last-small r m = let u = upFrom-in (rowAt p) (p .«clause_count») 0 r m in rw (u .3) (s .days (u .0) .1)
+
+  -- its rows are over its names, and their days in order
+  rows-fit : every (fitting (p .dated) (p .«atom_count»)) (rows p) ≡ true
+  rows-fit = each-every (fitting (p .dated) (p .«atom_count»)) (rows p)
+      (λ r m. and-is-true _ _ (and-is-true _ _ (row-clause p v r m) (row-days p v r m)) (le-leb (r .last) 65535 (last-small r m)))
+
+  -- each row is the row of its numbers
+  pub rows-back : map (rowOfNumbers (p .«atom_count»)) (numbersOf p) ≡ rows p
+  unfolding numbersOf
+  rows-back = map-back (rowNumbers (p .dated) (p .«atom_count»)) (fitting (p .dated) (p .«atom_count»)) (rowOfNumbers (p .«atom_count»)) (row-again (p .dated) (p .«atom_count»)) (rows p) rows-fit
 
 -- ---- the names and rows of a valid table are good
 -- two places of eight bytes with one name are equal
@@ -295,12 +393,26 @@ unfolding upFrom every clauseValue
 values-small c zero i = refl
 values-small c (suc k) i = rw (le-leb (clauseValue c i) 63 (omega (arith, value-lt (c .head) i, value-lt (c .body) i, value-lt (c .naf) i)), values-small c k (suc i))
 
-row-form : (n : ℕ) (c : Clause) → isRow n (clauseValues n c) ≡ true
-unfolding isRow clauseValues tabulate
-row-form n c = rw (eq-eqb (length (upFrom (clauseValue c) n 0)) n (length-upFrom (clauseValue c) n 0), values-small c n 0)
+values-fit : (n : ℕ) (c : Clause) → every isValue (clauseValues n c) ≡ true
+unfolding clauseValues tabulate
+values-fit n c = values-small c n 0
 
-rows-form : (n : ℕ) (cs : List Clause) → every (isRow n) (map (clauseValues n) cs) ≡ true
-rows-form n = every-all (clauseValues n) (isRow n) (row-form n)
+days-small : (dated : Bool) (r : Row) → r .first ≤ r .last → r .last ≤ 65535 → every isDay (days-of dated r) ≡ true
+unfolding every
+days-small true r o h = rw (le-leb (r .first) 65535 (omega arith), le-leb (r .last) 65535 h)
+days-small false r o h = refl
+
+row-form : (dated : Bool) (n : ℕ) (r : Row) → fitting dated n r ≡ true → isRow dated n (rowNumbers dated n r) ≡ true
+unfolding isRow
+row-form dated n r h =
+    let t = fitting-parts dated n r h in
+    rw (
+      eq-eqb (length (rowNumbers dated n r)) (n + cond dated 2 0) (numbers-long dated n r),
+      first-numbers dated n r,
+      values-fit n (r .clause),
+      last-numbers dated n r,
+      days-small dated r (t .days .order) (t .small),
+    )
 
 zeros-word : (k m : ℕ) → bitsOf k 0 ≡ 0 → wordBy k (replicate m 0) ≡ 0
 unfolding wordBy wordOf
@@ -321,33 +433,42 @@ told-here n c h = ⊎-elim
     clash (not (eqb (c .head) 0 && eqb (c .body) 0 && eqb (c .naf) 0)) z (rw (eq-eqb (c .head) 0 a, eq-eqb (c .body) 0 b, eq-eqb (c .naf) 0 d)))
     (λ t. t) (dec (every (eqb 0) (clauseValues n c)))
 
-rows-told : (n : ℕ) (cs : List Clause) → every (isClause n) cs ≡ true → anyOf (every (eqb 0)) (map (clauseValues n) cs) ≡ false
-unfolding every anyOf
-rows-told n [] h = refl
-rows-told n (c ∷ cs) h =
-    let a = both-true (isClause n c) (every (isClause n) cs) h in
-    rw (told-here n c (a .0), rows-told n cs (a .1))
+-- the numbers of rows that fit
+module _ (dated : Bool) (n : ℕ) (R : List Row) (h : every (fitting dated n) R ≡ true) where
+  rows-form : every (isRow dated n) (map (rowNumbers dated n) R) ≡ true
+  rows-form = every-map (rowNumbers dated n) (fitting dated n) (isRow dated n) (row-form dated n) R h
 
-pub good-table : (p : Program) → Sized p → valid p ≡ true → Good (namesOf p) (valuesOf p)
-unfolding namesOf valuesOf rows tabulate
+  rows-told : anyOf (λ vs. every (eqb 0) (take n vs)) (map (rowNumbers dated n) R) ≡ false
+  rows-told = none-map (rowNumbers dated n) (fitting dated n) (λ vs. every (eqb 0) (take n vs))
+      (λ r t. ap (every (eqb 0)) (first-numbers dated n r) ∙ told-here n (r .clause) (fitting-parts dated n r t .clause)) R h
+
+  rows-ordered : anyOf (reversed n) (map (rowNumbers dated n) R) ≡ false
+  rows-ordered = none-map (rowNumbers dated n) (fitting dated n) (reversed n)
+      (λ r t.
+      let u = fitting-parts dated n r t .days in
+      rw (number-at dated n r n 0 (omega arith) ∙ day-one dated r u, number-at dated n r (n + 1) 1 refl ∙ day-two dated r u) (le-ltb (r .last) (r .first) (u .order))) R h
+
+pub good-table : (p : Program) → Sized p → valid p ≡ true → Good (p .dated) (namesOf p) (numbersOf p)
+unfolding namesOf numbersOf tabulate
 good-table p s v =
     let t = valid-names p v in
-    let u = valid-clauses p v in
     let n = p .«atom_count» in
     let Y = p .«atom_names» in
-    let cs = upFrom (clauseAt (p .heads) (p .bodies) (p .nafs)) (p .«clause_count») 0 in
     let l : length (upFrom (nameAt Y) n 0) ≡ n = length-upFrom (nameAt Y) n 0 in
     let e = names-are-named Y n 0 in
+    let f = rows-fit p s v in
     let a = t .one-up in
-    let f = t .few in
+    let w = t .few in
     record {
       any = omega arith;
       few = omega arith;
       named = ap (every isName) e ∙ every-map named isPlace isName place-named (upFrom (place Y) n 0) (t .named);
       apart = ap distinct e ∙ distinct-map named whole-place one-place (upFrom (place Y) n 0) (whole-places Y n 0 (omega (arith, s .names)) (t .named)) (t .apart);
-      short = omega (arith, length-map cs (clauseValues n), length-upFrom (clauseAt (p .heads) (p .bodies) (p .nafs)) (p .«clause_count») 0, u .short);
-      ruled = rw l (rows-form n cs);
-      told = rows-told n cs (u .ruled);
+      ending = t .ending;
+      short = omega (arith, length-map (rows p) (rowNumbers (p .dated) n), length-rows p, valid-clauses p v .short);
+      ruled = rw l (rows-form (p .dated) n (rows p) f);
+      told = rw l (rows-told (p .dated) n (rows p) f);
+      ordered = rw (l, rows-ordered (p .dated) n (rows p) f, and-false);
     }
 
 -- ---- the table of good names and rows is valid
@@ -387,14 +508,14 @@ words-zero (v ∷ vs) h a b c =
     let c1 : v / 16 % 4 ≡ 0 = omega (arith, c) in
     rw (eq-eqb 0 v (zero-of v l a1 b1 c1), words-zero vs (w .1) (omega (arith, a)) (omega (arith, b)) (omega (arith, c)))
 
-row-clause : (n : ℕ) (vs : List ℕ) → isRow n vs ≡ true → every (eqb 0) vs ≡ false → isClause n (clauseOfValues vs) ≡ true
+values-clause : (n : ℕ) (vs : List ℕ) → length vs ≡ n → every isValue vs ≡ true → every (eqb 0) vs ≡ false → isClause n (clauseOfValues vs) ≡ true
 unfolding isClause isWord clauseOfValues
-row-clause n vs h t =
-    let e : 2 ^ (2 * length vs) ≡ 2 ^ (2 * n) = ap (λ (m : ℕ). 2 ^ (2 * m)) (row-long n vs h) in
+values-clause n vs l h t =
+    let e : 2 ^ (2 * length vs) ≡ 2 ^ (2 * n) = ap (λ (m : ℕ). 2 ^ (2 * m)) l in
     let z : eqb (wordBy 1 vs) 0 && eqb (wordBy 4 vs) 0 && eqb (wordBy 16 vs) 0 ≡ false = ⊎-elim
     (λ q. let u = both-true (eqb (wordBy 1 vs) 0 && eqb (wordBy 4 vs) 0) (eqb (wordBy 16 vs) 0) q in
     let w = both-true (eqb (wordBy 1 vs) 0) (eqb (wordBy 4 vs) 0) (u .0) in
-    clash (every (eqb 0) vs) (words-zero vs (row-small n vs h) (eqb-true _ _ (w .0)) (eqb-true _ _ (w .1)) (eqb-true _ _ (u .1))) t)
+    clash (every (eqb 0) vs) (words-zero vs h (eqb-true _ _ (w .0)) (eqb-true _ _ (w .1)) (eqb-true _ _ (u .1))) t)
     (λ q. q) (dec (eqb (wordBy 1 vs) 0 && eqb (wordBy 4 vs) 0 && eqb (wordBy 16 vs) 0)) in
     rw (
       lt-ltb (wordBy 1 vs) (2 ^ (2 * n)) (omega (arith, word-lt 1 vs)),
@@ -403,47 +524,80 @@ row-clause n vs h t =
       z,
     )
 
-rows-clauses : (n : ℕ) (vss : List (List ℕ)) → every (isRow n) vss ≡ true → anyOf (every (eqb 0)) vss ≡ false → every (isClause n) (map clauseOfValues vss) ≡ true
-unfolding every anyOf
-rows-clauses n [] h t = refl
-rows-clauses n (r ∷ vss) h t =
-    let p = both-true (isRow n r) (every (isRow n) vss) h in
-    let s = both-false (every (eqb 0) r) (anyOf (every (eqb 0)) vss) t in
-    rw (row-clause n r (p .0) (s .0), rows-clauses n vss (p .1) (s .1))
+-- the days that a line has are in order, and 0 where it has none
+numbers-fit : (dated : Bool) (n : ℕ) (vs : List ℕ) → length vs ≡ n + cond dated 2 0 → dated && reversed n vs ≡ false → daysFit dated (getD vs n 0) (getD vs (n + 1) 0) ≡ true
+numbers-fit true n vs l h = days-fit true (getD vs n 0) (getD vs (n + 1) 0) (ltb-false (getD vs (n + 1) 0) (getD vs n 0) h) (λ e. clash true refl e)
+numbers-fit false n vs l h =
+    let f : getD vs n 0 ≡ 0 = List·getD-eq-default vs 0 (omega arith) in
+    days-fit false (getD vs n 0) (getD vs (n + 1) 0) (omega arith) (λ e. List·getD-eq-default vs 0 (omega arith))
 
--- a column of the clauses of some rows: as many words as there are rows
-column-long : (sel : Clause → ℕ) (vss : List (List ℕ)) → length (map sel (map clauseOfValues vss)) ≡ length vss
-column-long sel vss = length-map (map clauseOfValues vss) sel ∙ length-map vss clauseOfValues
+none-here : (dated : Bool) (n : ℕ) (vss : List (List ℕ)) → dated && anyOf (reversed n) vss ≡ false → Each (λ vs. dated && reversed n vs ≡ false) vss
+none-here true n vss h = none-each (reversed n) vss h
+none-here false n vss h = λ vs m. refl
 
-module _ (ns vss : List (List ℕ)) (g : Good ns vss) where
-  pub valid-with : valid (tableOf ns (map clauseOfValues vss)) ≡ true
-  unfolding valid namesValid clausesValid heldValid zeroFrom tableOf
-  valid-with =
+module _ (dated : Bool) (ns vss : List (List ℕ)) (g : Good dated ns vss) where
+  abbrev read-rows : List Row
+  read-rows = map (rowOfNumbers (length ns)) vss
+
+  -- each row is that of a line
+  line-parts : (vs : List ℕ) → vs ∈ vss → RowParts dated (length ns) vs
+  line-parts vs m = row-parts dated (length ns) vs (every-each (isRow dated (length ns)) vss (g .ruled) vs m)
+
+  rows-over : Each (λ r. isClause (length ns) (r .clause) ≡ true) read-rows
+  unfolding rowOfNumbers
+  rows-over r m =
+      let s = map-in (rowOfNumbers (length ns)) r vss m in
+      let t = line-parts (s .0) (s .1) in
+      ap (λ (r : Row). isClause (length ns) (r .clause)) (s .2)
+      ∙ values-clause (length ns) (take (length ns) (s .0)) (t .first-n) (t .values) (none-each (λ vs. every (eqb 0) (take (length ns) vs)) vss (g .told) (s .0) (s .1))
+
+  days-ordered : Each (λ r. daysFit dated (r .first) (r .last) ≡ true) read-rows
+  unfolding rowOfNumbers
+  days-ordered r m =
+      let s = map-in (rowOfNumbers (length ns)) r vss m in
+      ap (λ (r : Row). daysFit dated (r .first) (r .last)) (s .2)
+      ∙ numbers-fit dated (length ns) (s .0) (line-parts (s .0) (s .1) .long) (none-here dated (length ns) vss (g .ordered) (s .0) (s .1))
+
+  names-fit : namesValid dated (padded 96 (placed ns)) (length ns) ≡ true
+  unfolding namesValid zeroFrom
+  names-fit =
       let n = length ns in
-      let cs = map clauseOfValues vss in
-      let m = length cs in
       rw (
         le-leb 1 n (g .any),
         le-leb n 12 (g .few),
-        le-leb m 64 (omega (arith, length-map vss clauseOfValues, g .short)),
         places-of ns (g .named),
         padded-places ns (g .named),
         pads-apart ns (g .named) (g .apart),
         padded-tail 96 (8 * n) (placed ns) (placed-long ns (g .named)),
-        clauses-of cs,
-        rows-clauses n vss (g .ruled) (g .told),
-        padded-tail 64 m (map (λ c. c .head) cs) (length-map cs (λ c. c .head)),
-        padded-tail 64 m (map (λ c. c .body) cs) (length-map cs (λ c. c .body)),
-        padded-tail 64 m (map (λ c. c .naf) cs) (length-map cs (λ c. c .naf)),
+        names-there ns (g .named),
+        g .ending,
       )
 
-  pub sized-with : Sized (tableOf ns (map clauseOfValues vss))
+  rows-few : length read-rows ≤ 64
+  rows-few = omega (arith, length-map vss (rowOfNumbers (length ns)), g .short)
+
+  pub valid-with : valid (tableOf dated ns read-rows) ≡ true
   unfolding tableOf
+  valid-with = ap valid (with-rows dated ns read-rows) ∙ rows-valid (tableOf dated ns []) read-rows rows-few rows-over days-ordered names-fit
+
+  -- a column of days
+  column-small : (f : Row → ℕ) → ((vs : List ℕ) → every isDay vs ≡ true → f (rowOfNumbers (length ns) vs) ≤ 65535) → (k : ℕ) → getD (padded 64 (map f read-rows)) k 0 ≤ 65535
+  column-small f h k =
+      let e = every-of-map f isDay read-rows ∙ every-map (rowOfNumbers (length ns)) (isRow dated (length ns)) (λ r. isDay (f r))
+      (λ vs t. le-leb _ 65535 (h vs (row-parts dated (length ns) vs t .small))) vss (g .ruled) in
+      rw (padded-at 64 (map f read-rows) k) (small-at 65535 (map f read-rows) k e)
+
+  pub sized-with : Sized (tableOf dated ns read-rows)
+  unfolding tableOf rowOfNumbers
   sized-with =
-      let short : (sel : Clause → ℕ) → length (map sel (map clauseOfValues vss)) ≤ 64 = λ sel. omega (arith, column-long sel vss, g .short) in
+      let n = length ns in
+      let short : (sel : Row → ℕ) → length (map sel read-rows) ≤ 64 = λ sel. omega (arith, length-map read-rows sel, rows-few) in
       record {
         names = padded-long 96 (placed ns) (omega (arith, placed-long ns (g .named), g .few));
-        heads = padded-long 64 _ (short (λ c. c .head));
-        bodies = padded-long 64 _ (short (λ c. c .body));
-        nafs = padded-long 64 _ (short (λ c. c .naf));
+        heads = padded-long 64 _ (short (λ r. r .clause .head));
+        bodies = padded-long 64 _ (short (λ r. r .clause .body));
+        nafs = padded-long 64 _ (short (λ r. r .clause .naf));
+        firsts = padded-long 64 _ (short (λ r. r .first));
+        lasts = padded-long 64 _ (short (λ r. r .last));
+        days = λ k. (column-small (λ r. r .first) (λ vs h. small-at 65535 vs n h) k, column-small (λ r. r .last) (λ vs h. small-at 65535 vs (n + 1) h) k);
       }

@@ -1,43 +1,65 @@
--- The value that an item is the decimal text of, and the lines of values. Assumes nothing.
+-- The number that an item is the decimal text of, and the lines of numbers. Assumes nothing.
 use mathlib.Core.Path.{_≡_, refl, sym, ap, _∙_}
-use mathlib.Core.Bool.{true, not}
+use mathlib.Core.Bool.{Bool, true, cond, not, _&&_}
 use mathlib.Core.List.{List, _∷_, map}
 use Prim.Native.Nat.{ℕ, _+_, _≤_, _<_}
 use native.Mathlib.Omega.{arith}
 use lib.Dec.{eqb}
-use lib.ListN.{length}
-use borrow.Author.Tests.{leb-true, ne-eqb, eqb-true}
+use lib.ListN.{length, take, drop, take-append-drop}
+use lib.Seq.{length-take-le}
+use borrow.Author.Tests.{leb-true, le-leb, ne-eqb, eqb-true}
 use Rattle.sets.specs.Lists.{every}
 use Rattle.sets.proofs.Tests.{both-true}
+use Rattle.sets.proofs.Lists.{every-append, every-mono}
 use Rattle.lists.specs.Bytes.{join, pieces}
 use Rattle.lists.proofs.Pieces.{pieces-join, join-pieces}
 use Rattle.lists.proofs.Padding.{isnt, all-free}
 use Rattle.decimal.specs.Decimal.{decimal}
 use Rattle.decimal.proofs.Laws.{decimal-short, decimal-every, number-hit, number-back}
 use Rattle.text.specs.Lines.{valueOf, row}
-use Rattle.text.specs.Refusals.{isValue, isRow}
+use Rattle.text.specs.Refusals.{isValue, isDay, isRow}
 use Rattle.text.proofs.Lists.{every-of-map, every-all, map-back}
 
--- an item is the text of its value, and of no other
-value-hit : (i : List ℕ) (v : ℕ) → v ≤ 63 → decimal v ≡ i → valueOf i ≡ v
+-- an item is the text of its number, and of no other
+number-is : (i : List ℕ) (v : ℕ) → v ≤ 65535 → decimal v ≡ i → valueOf i ≡ v
 unfolding valueOf
-value-hit i v h e = number-hit 65535 i v (omega arith) e
+number-is i v h e = number-hit 65535 i v h e
 
-value-back : (i : List ℕ) → valueOf i ≤ 63 → decimal (valueOf i) ≡ i
+number-text : (i : List ℕ) → valueOf i ≤ 65535 → decimal (valueOf i) ≡ i
 unfolding valueOf
-value-back i h = number-back 65535 i (omega arith)
+number-text i h = number-back 65535 i h
 
 pub value-short : (v : ℕ) → v ≤ 63 → length (decimal v) ≤ 2
 value-short v h = decimal-short 1 v (omega arith)
 
--- a row for n names has n values, each a value
-pub row-long : (n : ℕ) (vs : List ℕ) → isRow n vs ≡ true → length vs ≡ n
-unfolding isRow
-row-long n vs h = eqb-true (length vs) n (both-true (eqb (length vs) n) (every isValue vs) h .0)
+pub day-short : (v : ℕ) → v ≤ 65535 → length (decimal v) ≤ 5
+day-short v h = decimal-short 4 v (omega arith)
 
-pub row-small : (n : ℕ) (vs : List ℕ) → isRow n vs ≡ true → every isValue vs ≡ true
+-- the numbers of a clause line for n names: a value for each, and two days behind them where the book is dated
+pub record RowParts (dated : Bool) (n : ℕ) (vs : List ℕ) : Type 0 where
+  pub long : length vs ≡ n + cond dated 2 0
+  pub values : every isValue (take n vs) ≡ true
+  pub days : every isDay (drop n vs) ≡ true
+  pub first-n : length (take n vs) ≡ n
+  pub small : every isDay vs ≡ true
+
+pub row-parts : (dated : Bool) (n : ℕ) (vs : List ℕ) → isRow dated n vs ≡ true → RowParts dated n vs
 unfolding isRow
-row-small n vs h = both-true (eqb (length vs) n) (every isValue vs) h .1
+row-parts dated n vs h =
+    let a = both-true (eqb (length vs) (n + cond dated 2 0) && every isValue (take n vs)) (every isDay (drop n vs)) h in
+    let b = both-true (eqb (length vs) (n + cond dated 2 0)) (every isValue (take n vs)) (a .0) in
+    let l = eqb-true (length vs) (n + cond dated 2 0) (b .0) in
+    record {
+      long = l;
+      values = b .1;
+      days = a .1;
+      first-n = length-take-le n vs (omega arith);
+      small = rw (← take-append-drop n vs)
+          (every-append isDay (take n vs) (drop n vs) (every-mono isValue isDay (λ v t. le-leb v 65535 (omega (arith, leb-true v 63 t))) (take n vs) (b .1)) (a .1));
+    }
+
+pub row-long : (dated : Bool) (n : ℕ) (vs : List ℕ) → isRow dated n vs ≡ true → length vs ≡ n + cond dated 2 0
+row-long dated n vs h = row-parts dated n vs h .long
 
 -- ---- decimal texts are free of what separates them
 module _ (c : ℕ) (low : c < 48) where
@@ -56,14 +78,14 @@ pub items-are : (v : ℕ) (vs : List ℕ) → pieces 32 (plainLine (v ∷ vs)) �
 unfolding plainLine
 items-are v vs = pieces-join 32 (decimal v) (map decimal vs) (all-free 32 (map decimal (v ∷ vs)) (decimals-isnt 32 (omega arith) (v ∷ vs)))
 
--- ---- items to values and back
--- a clause line is the line of its values
-pub line-back : (n : ℕ) (l : List ℕ) → isRow n (row l) ≡ true → plainLine (row l) ≡ l
+-- ---- items to numbers and back
+-- a clause line is the line of its numbers
+pub line-back : (dated : Bool) (n : ℕ) (l : List ℕ) → isRow dated n (row l) ≡ true → plainLine (row l) ≡ l
 unfolding plainLine row
-line-back n l h =
+line-back dated n l h =
     let is = pieces 32 l in
-    let e : every (λ i. isValue (valueOf i)) is ≡ true = sym (every-of-map valueOf isValue is) ∙ row-small n (row l) h in
-    ap (join 32) (map-back valueOf (λ i. isValue (valueOf i)) decimal (λ i t. value-back i (leb-true (valueOf i) 63 t)) is e) ∙ join-pieces 32 l
+    let e : every (λ i. isDay (valueOf i)) is ≡ true = sym (every-of-map valueOf isDay is) ∙ row-parts dated n (row l) h .small in
+    ap (join 32) (map-back valueOf (λ i. isDay (valueOf i)) decimal (λ i t. number-text i (leb-true (valueOf i) 65535 t)) is e) ∙ join-pieces 32 l
 
-pub values-back : (vs : List ℕ) → every isValue vs ≡ true → map valueOf (map decimal vs) ≡ vs
-values-back = map-back decimal isValue valueOf (λ v t. value-hit (decimal v) v (leb-true v 63 t) refl)
+pub numbers-back : (vs : List ℕ) → every isDay vs ≡ true → map valueOf (map decimal vs) ≡ vs
+numbers-back = map-back decimal isDay valueOf (λ v t. number-is (decimal v) v (leb-true v 65535 t) refl)

@@ -5,3 +5,4 @@ pub mod Render
 pub mod Refusals
 pub mod Reading
 pub mod Writing
+pub mod Samples

@@ -1,9 +1,11 @@
 -- The lines of a book and the items on them. Assumes nothing.
+use mathlib.Core.Bool.{Bool, cond}
 use mathlib.Core.List.{List, [], _∷_, _++_, map, tail}
-use Prim.Native.Nat.{ℕ, _<_}
-use lib.ListN.{length}
+use Prim.Native.Nat.{ℕ, _-_, _<_}
+use lib.ListN.{length, take}
 use Rattle.lists.specs.Bytes.{pieces, ended, endOf, join}
 use Rattle.decimal.specs.Decimal.{decimal, numberOf}
+use Rattle.program.specs.Names.{endsDated}
 
 -- ---- written
 -- "Each line ends in byte 10." "Items on a line are separated by one space, with none at either end."
@@ -38,10 +40,19 @@ abbrev pub firstLine : List (List ℕ) → List ℕ
 firstLine [] = []
 firstLine (l ∷ ls) = l
 
--- the names, on the first line, and the lines of the clauses, behind it
-unfoldable pub names : List ℕ → List (List ℕ)
-names b = items (firstLine (lines b))
+-- the items on the first line
+unfoldable pub firstItems : List ℕ → List (List ℕ)
+firstItems b = items (firstLine (lines b))
 
+-- document 02, U13: "If a names line ends in "from to" behind at least one other name", the book is dated
+unfoldable pub isDated : List ℕ → Bool
+isDated b = endsDated (firstItems b)
+
+-- the names, on the first line: of a dated book "these two are not names"
+unfoldable pub names : List ℕ → List (List ℕ)
+names b = cond (isDated b) (take (length (firstItems b) - 2) (firstItems b)) (firstItems b)
+
+-- the lines of the clauses, behind it
 unfoldable pub clauseLines : List ℕ → List (List ℕ)
 clauseLines b = tail (lines b)
 

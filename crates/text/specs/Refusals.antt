@@ -1,14 +1,14 @@
--- When the reader says no: refusals 1 to 8, each over the whole text. Assumes nothing.
-use mathlib.Core.Bool.{Bool, not, _&&_, _||_}
+-- When the reader says no: refusals 1 to 8 and 22, each over the whole text. Assumes nothing.
+use mathlib.Core.Bool.{Bool, cond, not, _&&_, _||_}
 use mathlib.Core.List.{List, [], _∷_, _++_, map}
-use Prim.Native.Nat.{ℕ, _-_}
+use Prim.Native.Nat.{ℕ, _+_, _-_}
 use lib.Dec.{eqb, leb, ltb}
-use lib.ListN.{length, getD}
+use lib.ListN.{length, getD, take, drop}
 use Rattle.sets.specs.Lists.{every, anyOf}
 use Rattle.lists.specs.Bytes.{distinct}
 use Rattle.program.specs.Names.{isPlain, isName}
 use Rattle.program.specs.Refusals.{lowest}
-use Rattle.text.specs.Lines.{lines, names, clauseLines, row}
+use Rattle.text.specs.Lines.{lines, isDated, names, clauseLines, row}
 
 -- 1. "The book has 0 or more than 4,096 bytes."
 unfoldable pub wrongSize : List ℕ → Bool
@@ -41,15 +41,24 @@ namesEqual b = not (distinct (names b))
 abbrev pub isValue : ℕ → Bool
 isValue v = leb v 63
 
-unfoldable pub isRow : ℕ → List ℕ → Bool
-isRow n vs = eqb (length vs) n && every isValue vs
+-- document 02, U13: "day numbers from 0 to 65535, written as values are"
+abbrev pub isDay : ℕ → Bool
+isDay v = leb v 65535
+
+-- the numbers of a line for n names, behind which "each clause line ends in two day numbers" where the book is dated
+unfoldable pub isRow : Bool → ℕ → List ℕ → Bool
+isRow dated n vs = eqb (length vs) (n + cond dated 2 0) && every isValue (take n vs) && every isDay (drop n vs)
 
 unfoldable pub clauseBroken : List ℕ → Bool
-clauseBroken b = not (every (isRow (length (names b))) (map row (clauseLines b)))
+clauseBroken b = not (every (isRow (isDated b) (length (names b))) (map row (clauseLines b)))
 
--- 8. "A clause line has only zeros."
+-- 8. "A clause line has only zeros."; document 02, U13: "refusal 8 looks at the values only"
 unfoldable pub onlyZeros : List ℕ → Bool
-onlyZeros b = anyOf (every (eqb 0)) (map row (clauseLines b))
+onlyZeros b = anyOf (λ vs. every (eqb 0) (take (length (names b)) vs)) (map row (clauseLines b))
+
+-- 22. "in a dated book .. a first day is after its last"
+unfoldable pub daysReversed : List ℕ → Bool
+daysReversed b = isDated b && anyOf (λ vs. ltb (getD vs (length (names b) + 1) 0) (getD vs (length (names b)) 0)) (map row (clauseLines b))
 
 -- 1 to 6: the tests of the bytes and of the names line; the lowest of them that applies, 0 for none
 abbrev pub opening : List ℕ → List (ℕ × Bool)
@@ -58,9 +67,9 @@ opening b = (1, wrongSize b) ∷ (2, unended b) ∷ (3, hasForeign b) ∷ (4, to
 unfoldable pub openingRefusal : List ℕ → ℕ
 openingRefusal b = lowest (opening b)
 
--- "The reader meets 1 to 8"
+-- "The reader meets 1 to 8", and 22 "behind 8 in reading"
 abbrev pub refusals : List ℕ → List (ℕ × Bool)
-refusals b = opening b ++ (7, clauseBroken b) ∷ (8, onlyZeros b) ∷ []
+refusals b = opening b ++ (7, clauseBroken b) ∷ (8, onlyZeros b) ∷ (22, daysReversed b) ∷ []
 
 -- "Of several that apply, the lowest is given, wherever in the book each arises": 0 for none
 unfoldable pub refusal : List ℕ → ℕ

@@ -12,7 +12,8 @@ use Rattle.sets.proofs.Tests.{clash, lt-or-ge}
 use Rattle.sets.proofs.Rising.{begins-same}
 use Rattle.program.specs.declared.Program.{Program}
 use Rattle.program.specs.declared.Outcome.the-variants.{Spent}
-use Rattle.program.specs.Clauses.{Clause, clauses}
+use Rattle.program.specs.Clauses.{Clause}
+use Rattle.program.specs.Days.{clauses}
 use Rattle.program.specs.Valid.{valid}
 use Rattle.semantics.specs.Interpretations.{isStable}
 use Rattle.tree.specs.declared.SearchAnswer.{SearchAnswer}
@@ -204,9 +205,9 @@ module _ (P : List Clause) where
   pub as-before : (n A : ℕ) (l₀ : List ℕ) {a b : SearchAnswer} {l m : List ℕ} → Ends (violated P) P n A l₀ a l → Ends (dead P) P n A l₀ b m → AsBefore a b l m
   as-before = ends-as-before (violated P) (dead P) P (violated-dead P) below-dead
 
--- the same of what the contract of the search promises
-pub search-as-before : (p : Program) (A : ℕ) (l₀ : List ℕ) {a b : SearchAnswer} {l m : List ℕ} → valid p ≡ true
-    → Ends (violated (clauses p)) (clauses p) (p .«atom_count») A l₀ a l → Searches p A l₀ b m → AsBefore a b l m
-search-as-before p A l₀ v s t =
-    let r = accepted p A l₀ v in
-    as-before (clauses p) (p .«atom_count») A l₀ s (record { says = t .says ∙ r .0; lists = t .lists ∙ r .1 })
+-- the same of what the contract of the search promises, of the clauses of the day
+pub search-as-before : (p : Program) (d A : ℕ) (l₀ : List ℕ) {a b : SearchAnswer} {l m : List ℕ} → valid p ≡ true
+    → Ends (violated (clauses p d)) (clauses p d) (p .«atom_count») A l₀ a l → Searches p d A l₀ b m → AsBefore a b l m
+search-as-before p d A l₀ v s t =
+    let r = accepted p d A l₀ v in
+    as-before (clauses p d) (p .«atom_count») A l₀ s (record { says = t .says ∙ r .0; lists = t .lists ∙ r .1 })

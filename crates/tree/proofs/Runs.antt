@@ -14,7 +14,8 @@ use Rattle.sets.specs.Words.{bit}
 use Rattle.sets.proofs.Tests.{dec, clash}
 use Rattle.sets.proofs.Rising.{begins-append, begins-take}
 use Rattle.program.specs.declared.Program.{Program}
-use Rattle.program.specs.Clauses.{Clause, clauses}
+use Rattle.program.specs.Clauses.{Clause}
+use Rattle.program.specs.Days.{clauses}
 use Rattle.program.specs.Valid.{valid}
 use Rattle.program.specs.Refusals.{lowest}
 use Rattle.semantics.specs.Definitions.{PStable}
@@ -88,43 +89,43 @@ module _ (hit : Node → Bool) (xs : List Node) (A : ℕ) where
       let ws = listing hit xs A (length l) in
       omega (arith, length-append ws (drop (length ws) l), length-drop (length ws) l, fits (length l))
 
--- ---- the search of a table
-pub leaves-of : (p : Program) → hits (leafOf p) (nodesOf p) ≡ models (p .«atom_count») (clauses p)
-leaves-of p = leaves-are-models (dead (clauses p)) (p .«atom_count») (clauses p) (dead-harmless (clauses p))
+-- ---- the search of a table on a day
+pub leaves-of : (p : Program) (d : ℕ) → hits (leafOf p d) (nodesOf p d) ≡ models (p .«atom_count») (clauses p d)
+leaves-of p d = leaves-are-models (dead (clauses p d)) (p .«atom_count») (clauses p d) (dead-harmless (clauses p d))
 
-module _ (p : Program) (A : ℕ) (l : List ℕ) where
+module _ (p : Program) (d A : ℕ) (l : List ℕ) where
   -- a table that 9 does not refuse: the answer and the list of the run; any other: refusal 9, and the list as it was
-  pub accepted : valid p ≡ true → (answerOf p A l ≡ runAnswer (leafOf p) (nodesOf p) A (length l)) × (exitOf p A l ≡ runExit (leafOf p) (nodesOf p) A l)
+  pub accepted : valid p ≡ true → (answerOf p d A l ≡ runAnswer (leafOf p d) (nodesOf p d) A (length l)) × (exitOf p d A l ≡ runExit (leafOf p d) (nodesOf p d) A l)
   unfolding answerOf exitOf refusal lowest
   accepted v = (rw v, rw v)
 
-  pub refused : valid p ≡ false → (answerOf p A l ≡ answer (Refused 9) 0 0) × (exitOf p A l ≡ l)
+  pub refused : valid p ≡ false → (answerOf p d A l ≡ answer (Refused 9) 0 0) × (exitOf p d A l ≡ l)
   unfolding answerOf exitOf refusal lowest
   refused v = (rw v, rw v)
 
-  pub listed-is : valid p ≡ true → listed p A l ≡ listing (leafOf p) (nodesOf p) A (length l)
+  pub listed-is : valid p ≡ true → listed p d A l ≡ listing (leafOf p d) (nodesOf p d) A (length l)
   unfolding listed
   listed-is v =
       let a = accepted v in
-      rw (a .0, a .1, written-is (leafOf p) (nodesOf p) A (length l)) (exit-first (leafOf p) (nodesOf p) A l)
+      rw (a .0, a .1, written-is (leafOf p d) (nodesOf p d) A (length l)) (exit-first (leafOf p d) (nodesOf p d) A l)
 
-  pub listed-none : valid p ≡ false → listed p A l ≡ []
+  pub listed-none : valid p ≡ false → listed p d A l ≡ []
   unfolding listed
   listed-none v = rw (refused v .0)
 
   -- what a search lists is the first part of the rising list of the p-stable words: the lowest ones, each just once
-  pub lists-lowest : Begins (listed p A l) (models (p .«atom_count») (clauses p))
+  pub lists-lowest : Begins (listed p d A l) (models (p .«atom_count») (clauses p d))
   lists-lowest = ⊎-elim
-      (λ v. rw (listed-is v, ← leaves-of p) (listing-begins (leafOf p) (nodesOf p) A (length l)))
-      (λ v. rw (listed-none v) (begins-append [] (models (p .«atom_count») (clauses p))))
+      (λ v. rw (listed-is v, ← leaves-of p d) (listing-begins (leafOf p d) (nodesOf p d) A (length l)))
+      (λ v. rw (listed-none v) (begins-append [] (models (p .«atom_count») (clauses p d))))
       (dec (valid p))
 
   -- "List places beyond those written keep their content."
-  pub keeps-rest : drop (answerOf p A l .written) (exitOf p A l) ≡ drop (answerOf p A l .written) l
+  pub keeps-rest : drop (answerOf p d A l .written) (exitOf p d A l) ≡ drop (answerOf p d A l .written) l
   keeps-rest = ⊎-elim
-      (λ v. let a = accepted v in rw (a .0, a .1, written-is (leafOf p) (nodesOf p) A (length l)) (exit-rest (leafOf p) (nodesOf p) A l))
+      (λ v. let a = accepted v in rw (a .0, a .1, written-is (leafOf p d) (nodesOf p d) A (length l)) (exit-rest (leafOf p d) (nodesOf p d) A l))
       (λ v. rw (refused v .1))
       (dec (valid p))
 
-  pub same-places : length (exitOf p A l) ≡ length l
-  same-places = ⊎-elim (λ v. rw (accepted v .1) (exit-length (leafOf p) (nodesOf p) A l)) (λ v. rw (refused v .1)) (dec (valid p))
+  pub same-places : length (exitOf p d A l) ≡ length l
+  same-places = ⊎-elim (λ v. rw (accepted v .1) (exit-length (leafOf p d) (nodesOf p d) A l)) (λ v. rw (refused v .1)) (dec (valid p))

@@ -7,7 +7,8 @@ use lib.Dec.{eqb, ltb}
 use lib.ListN.{length, take, drop}
 use Rattle.sets.specs.Least.{least}
 use Rattle.program.specs.declared.Program.{Program}
-use Rattle.program.specs.Clauses.{Clause, clauses}
+use Rattle.program.specs.Clauses.{Clause}
+use Rattle.program.specs.Days.{clauses}
 use Rattle.program.specs.Valid.{valid}
 use Rattle.program.specs.Refusals.{lowest}
 use Rattle.program.specs.declared.Outcome.{Outcome}
@@ -51,13 +52,13 @@ module _ (hit : Node → Bool) (xs : List Node) where
   unfolding listing
   runExit A l = listing A (length l) ++ drop (length (listing A (length l))) l
 
--- ---- the search of a table
+-- ---- the search of a table on a day, over the clauses of the day
 -- the test of p-stable leaves; the nodes of the tree
-abbrev pub leafOf : Program → Node → Bool
-leafOf p = isStableLeaf (dead (clauses p)) (clauses p)
+abbrev pub leafOf : Program → ℕ → Node → Bool
+leafOf p d = isStableLeaf (dead (clauses p d)) (clauses p d)
 
-abbrev pub nodesOf : Program → List Node
-nodesOf p = tree (dead (clauses p)) (p .«atom_count»)
+abbrev pub nodesOf : Program → ℕ → List Node
+nodesOf p d = tree (dead (clauses p d)) (p .«atom_count»)
 
 -- "the search [meets] 9"
 abbrev pub refusals : Program → List (ℕ × Bool)
@@ -66,22 +67,22 @@ refusals p = (9, not (valid p)) ∷ []
 unfoldable pub refusal : Program → ℕ
 refusal p = lowest (refusals p)
 
--- the answer for every table, every node limit and every list that is lent; where refused, "counts are 0"
-unfoldable pub answerOf : Program → ℕ → List ℕ → SearchAnswer
-answerOf p A l = cond (eqb (refusal p) 0) (runAnswer (leafOf p) (nodesOf p) A (length l)) (answer (Refused (refusal p)) 0 0)
+-- the answer for every table, every day, every node limit and every list that is lent; where refused, "counts are 0"
+unfoldable pub answerOf : Program → ℕ → ℕ → List ℕ → SearchAnswer
+answerOf p d A l = cond (eqb (refusal p) 0) (runAnswer (leafOf p d) (nodesOf p d) A (length l)) (answer (Refused (refusal p)) 0 0)
 
 -- the list at exit; a refusal writes none
-unfoldable pub exitOf : Program → ℕ → List ℕ → List ℕ
-exitOf p A l = cond (eqb (refusal p) 0) (runExit (leafOf p) (nodesOf p) A l) l
+unfoldable pub exitOf : Program → ℕ → ℕ → List ℕ → List ℕ
+exitOf p d A l = cond (eqb (refusal p) 0) (runExit (leafOf p d) (nodesOf p d) A l) l
 
 -- "What a run lists is the words it wrote from the start of its lent list, as many as its answer counts as written"
-unfoldable pub listed : Program → ℕ → List ℕ → List ℕ
-listed p A l = take (answerOf p A l .written) (exitOf p A l)
+unfoldable pub listed : Program → ℕ → ℕ → List ℕ → List ℕ
+listed p d A l = take (answerOf p d A l .written) (exitOf p d A l)
 
 -- the contract of the search: the answer and the list at exit, outright
-pub record Searches (p : Program) (A : ℕ) (l₀ : List ℕ) (a : SearchAnswer) (l : List ℕ) : Type 0 where
-  pub says : a ≡ answerOf p A l₀
-  pub lists : l ≡ exitOf p A l₀
+pub record Searches (p : Program) (d A : ℕ) (l₀ : List ℕ) (a : SearchAnswer) (l : List ℕ) : Type 0 where
+  pub says : a ≡ answerOf p d A l₀
+  pub lists : l ≡ exitOf p d A l₀
 
 -- the same of a run over clauses and n atoms with the dead test D, before any refusal
 pub record Ends (D : Dead) (P : List Clause) (n A : ℕ) (l₀ : List ℕ) (a : SearchAnswer) (l : List ℕ) : Type 0 where

@@ -61,14 +61,14 @@ fn expected_of(found: Answer, w: u64, clauses: u64, stable: bool) -> Answer {
 }
 
 // Whether the check calls the candidate p-stable exactly where it should.
-fn agrees_at(p: Program, w: u32, stable: bool) -> bool {
-    let found = asking::check(p, w);
+fn agrees_at(p: Program, day: u16, w: u32, stable: bool) -> bool {
+    let found = asking::check(p, day, w);
     let expected = expected_of(found, w as u64, p.clause_count as u64, stable);
     saying::agree(answers::CHECK, expected, found)
 }
 
 // A p-stable model lies in no other, so one literal more or less makes it none.
-fn agrees_inside(p: Program, words: &[u32]) -> bool {
+fn agrees_inside(p: Program, day: u16, words: &[u32]) -> bool {
     let m = words.len();
     if PLACES < m {
         return saying::is_number(answers::RECORD, PLACES as u64, m as u64, 0);
@@ -79,7 +79,7 @@ fn agrees_inside(p: Program, words: &[u32]) -> bool {
         let w = candidate(words, j);
         let stable = is_listed(words, w);
         if stable | program::is_word(p.atom_count, w) {
-            if !agrees_at(p, w, stable) {
+            if !agrees_at(p, day, w, stable) {
                 return false;
             }
         }
@@ -88,9 +88,9 @@ fn agrees_inside(p: Program, words: &[u32]) -> bool {
     true
 }
 
-fn is_outside(p: Program, w: u32) -> bool {
+fn is_outside(p: Program, day: u16, w: u32) -> bool {
     let refused = answers::of_checked(Checked::Refused(program::OUTSIDE_WORD), w as u64);
-    saying::agree(answers::CHECK, refused, asking::check(p, w))
+    saying::agree(answers::CHECK, refused, asking::check(p, day, w))
 }
 
 fn sums_up(p: Program, w: u32, verdict: Verdict) -> bool {
@@ -99,18 +99,18 @@ fn sums_up(p: Program, w: u32, verdict: Verdict) -> bool {
 }
 
 // Refusal 10: the first word with a bit too high, and the last one, by the check and in a list that is summed up.
-fn agrees_outside(p: Program) -> bool {
+fn agrees_outside(p: Program, day: u16) -> bool {
     let atoms = p.atom_count;
     if program::MOST_ATOMS < atoms {
         return saying::is_number(answers::READER, 12, atoms as u64, 0);
     }
     let first: u32 = 1 << (2 * atoms);
-    is_outside(p, first)
-        && is_outside(p, FREE)
+    is_outside(p, day, first)
+        && is_outside(p, day, FREE)
         && sums_up(p, first, Verdict::Refused(program::OUTSIDE_WORD))
         && sums_up(p, 3, Verdict::Accepted)
 }
 
-pub fn agrees(p: Program, words: &[u32]) -> bool {
-    agrees_inside(p, words) && agrees_outside(p)
+pub fn agrees(p: Program, day: u16, words: &[u32]) -> bool {
+    agrees_inside(p, day, words) && agrees_outside(p, day)
 }

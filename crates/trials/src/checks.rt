@@ -17,13 +17,13 @@ fn outcome_of(kind: u32) -> u64 {
     answers::UNSTABLE
 }
 
-fn agrees_at(p: Program, w: u32, kind: u32, number: u32) -> bool {
+fn agrees_at(p: Program, day: u16, w: u32, kind: u32, number: u32) -> bool {
     let expected = answers::made(outcome_of(kind), number as u64, w as u64);
-    saying::agree(answers::CHECK, expected, asking::check(p, w))
+    saying::agree(answers::CHECK, expected, asking::check(p, day, w))
 }
 
 // The numbers are a candidate, what the check finds, and the clause, the subset or 0; then the next candidate.
-pub fn agrees(p: Program, numbers: &[u32]) -> bool {
+pub fn agrees(p: Program, day: u16, numbers: &[u32]) -> bool {
     let m = numbers.len();
     if m == 0 {
         return saying::is_number(answers::RECORD, 3, 0, 0);
@@ -33,7 +33,7 @@ pub fn agrees(p: Program, numbers: &[u32]) -> bool {
         if m - k < 3 {
             return saying::is_number(answers::RECORD, 3, (m - k) as u64, k as u64);
         }
-        if !agrees_at(p, numbers[k], numbers[k + 1], numbers[k + 2]) {
+        if !agrees_at(p, day, numbers[k], numbers[k + 1], numbers[k + 2]) {
             return false;
         }
         k += 3;

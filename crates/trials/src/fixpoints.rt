@@ -17,11 +17,11 @@ fn agree(list: &[u32; PLACES], words: &[u32], expected: Answer, found: Answer) -
     saying::agree(answers::FIXPOINT, expected, found) && saying::holds(list, words)
 }
 
-fn is_full(p: Program, words: &[u32]) -> bool {
+fn is_full(p: Program, day: u16, words: &[u32]) -> bool {
     let mut list = [FREE; PLACES];
     let m = words.len();
     let n = lists::least(m, PLACES);
-    let found = asking::fixpoint(p, &mut list[START..n]);
+    let found = asking::fixpoint(p, day, &mut list[START..n]);
     agree(
         &list,
         words,
@@ -31,14 +31,14 @@ fn is_full(p: Program, words: &[u32]) -> bool {
 }
 
 // A book whose W or whose stages are too large is not asked for.
-pub fn tried(p: Program, words: &[u32]) -> Tried {
+pub fn tried(p: Program, day: u16, words: &[u32]) -> Tried {
     let mut list = [FREE; PLACES];
     let m = words.len();
     let n = lists::least(m, PLACES);
-    let found = asking::fixpoint(p, &mut list[START..n]);
+    let found = asking::fixpoint(p, day, &mut list[START..n]);
     if is_too_large(found.outcome) {
         if agree(&list, &[], answers::made(found.outcome, 0, 0), found) {
-            return Tried::NotAsked;
+            return Tried::NotAsked(found.outcome);
         }
         return Tried::Differs;
     }
@@ -53,5 +53,5 @@ pub fn tried(p: Program, words: &[u32]) -> Tried {
     if m == 0 {
         return Tried::Agrees;
     }
-    crate::tried_if(is_full(p, &words[START..m - 1]))
+    crate::tried_if(is_full(p, day, &words[START..m - 1]))
 }

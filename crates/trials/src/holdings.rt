@@ -1,12 +1,8 @@
 // A clause is held on a book, against stored answers: every other call passes over it, it is let go, and it is kept as the last clause.
 use crate::START;
-use crate::Tried;
 use crate::asking;
-use crate::candidates;
-use crate::fixpoints;
+use crate::days;
 use crate::saying;
-use crate::searches;
-use crate::texts;
 use answers::Answer;
 use hold::ClearAnswer;
 use hold::HoldAnswer;
@@ -35,86 +31,93 @@ fn cleared_as(found: u64) -> Answer {
     answers::made(answers::NOTHING_HELD, 0, 0)
 }
 
-fn is_found(tried: Tried) -> bool {
-    match tried {
-        Tried::Agrees => true,
-        Tried::Differs => false,
-        Tried::NotAsked => saying::is_number(answers::FIXPOINT, 1, 0, 0),
-    }
-}
-
-// Whether every call that weighs the clauses finds the models and the nodes that are stored, the number of nodes first, and the writer gives this text.
-fn weighs(p: Program, text: &[u8], stored: &[u32]) -> bool {
-    let n = stored.len();
-    if n == 0 {
-        return saying::is_number(answers::RECORD, 1, 0, 0);
-    }
-    let nodes = wide(stored[0]);
-    searches::is_complete(p, nodes, n - 1, &stored[1..n], nodes)
-        && is_found(fixpoints::tried(p, &stored[1..n]))
-        && candidates::agrees(p, &stored[1..n])
-        && texts::is_text_of(p, text)
-}
-
-// Whether a second clause is refused by 16 where one is held, with the table as it was.
-fn holds_one(p: Program, found: u64, text: &[u8], stored: &[u32]) -> bool {
+// Whether a second clause is refused by 16 where one is held, with the table as it was; its days are reversed, which a dated table refuses by a higher number.
+fn holds_one(p: Program, day: u16, found: u64, text: &[u8], stored: &[u32]) -> bool {
     if 2 <= found {
         return true;
     }
-    let again = asking::hold(p, 1, 0, 0);
+    let again = asking::hold(p, 1, 0, 0, 1, 0);
     let status = again.status;
     let q = again.program;
     let refused = answers::made(program::ALREADY_HELD as u64, 0, 0);
-    saying::agree(answers::HOLD, refused, answers::of_held(status)) && weighs(q, text, stored)
+    saying::agree(answers::HOLD, refused, answers::of_held(status))
+        && days::weighs(q, day, 0, text, stored)
 }
 
 // Whether the place was cleared where something was held, and what the table weighs then.
-fn clears(source: usize, a: ClearAnswer, found: u64, text: &[u8], stored: &[u32]) -> bool {
+fn clears(
+    source: usize,
+    a: ClearAnswer,
+    day: u16,
+    found: u64,
+    text: &[u8],
+    stored: &[u32],
+) -> bool {
     let status = a.status;
     let p = a.program;
-    saying::agree(source, cleared_as(found), answers::of_cleared(status)) && weighs(p, text, stored)
+    saying::agree(source, cleared_as(found), answers::of_cleared(status))
+        && days::weighs(p, day, 0, text, stored)
 }
 
 // Whether the clause is held so, passed over and let go, against what the book weighs.
-fn is_held(a: HoldAnswer, found: u64, book: &[u8], stored: &[u32]) -> bool {
+fn is_held(a: HoldAnswer, day: u16, found: u64, book: &[u8], stored: &[u32]) -> bool {
     let status = a.status;
     let p = a.program;
     saying::agree(answers::HOLD, held_as(found), answers::of_held(status))
-        && holds_one(p, found, book, stored)
-        && weighs(p, book, stored)
-        && clears(answers::RELEASE, asking::release(p), found, book, stored)
+        && holds_one(p, day, found, book, stored)
+        && days::weighs(p, day, 0, book, stored)
+        && clears(
+            answers::RELEASE,
+            asking::release(p),
+            day,
+            found,
+            book,
+            stored,
+        )
 }
 
 // Whether it is kept, against what the whole text weighs, by the numbers from `at` on.
-fn is_kept(p: Program, found: u64, text: &[u8], numbers: &[u32], at: usize) -> bool {
+fn is_kept(p: Program, day: u16, found: u64, text: &[u8], numbers: &[u32], at: usize) -> bool {
     if at < numbers.len() {
-        return clears(answers::KEEP, asking::keep(p), found, text, &numbers[at..]);
+        return clears(
+            answers::KEEP,
+            asking::keep(p),
+            day,
+            found,
+            text,
+            &numbers[at..],
+        );
     }
     saying::is_number(answers::RECORD, 1, 0, at as u64)
 }
 
-// The numbers are the three parts of the clause, what holding it finds, how many bytes of the text are the book, since the line of a clause that is taken is behind these,
-// and how many models the book has; then the nodes and the models of the book, and the nodes and the models of the whole text.
+// The numbers are the three parts of the clause and its two days, a day to weigh on, what holding it finds,
+// how many bytes of the text are the book, since the line of a clause that is taken is behind these, and how many models the book has;
+// then the nodes and the models of the book, and the nodes and the models of the whole text.
 pub fn agrees(text: &[u8], numbers: &[u32]) -> bool {
     let m = numbers.len();
-    if m < 8 {
-        return saying::is_number(answers::RECORD, 8, m as u64, 0);
+    if m < 11 {
+        return saying::is_number(answers::RECORD, 11, m as u64, 0);
     }
-    let size = wide(numbers[4]) as usize;
+    let size = wide(numbers[7]) as usize;
     if text.len() < size {
-        return saying::is_number(answers::RECORD, text.len() as u64, size as u64, 4);
+        return saying::is_number(answers::RECORD, text.len() as u64, size as u64, 7);
     }
-    let count = wide(numbers[5]) as usize;
+    let count = wide(numbers[8]) as usize;
     if m < count {
-        return saying::is_number(answers::RECORD, m as u64, count as u64, 5);
+        return saying::is_number(answers::RECORD, m as u64, count as u64, 8);
     }
-    let end = 7 + count;
+    let end = 10 + count;
     if m < end {
-        return saying::is_number(answers::RECORD, m as u64, end as u64, 6);
+        return saying::is_number(answers::RECORD, m as u64, end as u64, 9);
     }
     let p = asking::table_of(&text[START..size]);
-    let a = asking::hold(p, numbers[0], numbers[1], numbers[2]);
-    let found = wide(numbers[3]);
+    let first = days::day_of(numbers[3]);
+    let last = days::day_of(numbers[4]);
+    let a = asking::hold(p, numbers[0], numbers[1], numbers[2], first, last);
+    let day = days::day_of(numbers[5]);
+    let found = wide(numbers[6]);
     let q = a.program;
-    is_held(a, found, &text[START..size], &numbers[6..end]) && is_kept(q, found, text, numbers, end)
+    is_held(a, day, found, &text[START..size], &numbers[9..end])
+        && is_kept(q, day, found, text, numbers, end)
 }

@@ -1,10 +1,12 @@
-// Tries the engine from outside, by its public calls alone: books with stored models, lists with stored summaries, candidates with stored answers, trees with stored counts, clauses that are held and kept.
+// Tries the engine from outside, by its public calls alone: books with stored models, lists with stored summaries, candidates with stored answers,
+// trees with stored counts, dated books on their days, clauses that are held and kept.
 // A line for each family says how many were tried and how many agree.
 // What is asked of a book stands in a file for each family, and the calls themselves in `asking`.
 // The first disagreement is printed with both answers and its record's label, and ends the program.
 mod asking;
 mod candidates;
 mod checks;
+mod days;
 mod fixpoints;
 mod holdings;
 mod nodes;
@@ -19,12 +21,13 @@ ghost use lib.ListN.{length};
 ghost use Rattle.io.specs.Counts.{Counts};
 use answers::FREE;
 use answers::PLACES;
+use asking::ANY_DAY;
 
-// A record's outcome.
+// A record's outcome; what is not asked is a call that is refused so.
 enum Tried {
     Agrees,
     Differs,
-    NotAsked,
+    NotAsked(u64),
 }
 
 // The calls that a book is put to.
@@ -36,6 +39,7 @@ enum Family {
     Summaries,
     Checks,
     Nodes,
+    Days,
     Holdings,
 }
 
@@ -45,6 +49,7 @@ enum Stored {
     Summaries,
     Checks,
     Nodes,
+    Days,
     Holdings,
 }
 
@@ -59,12 +64,13 @@ fn ask(family: Family, text: &[u8], words: &[u32]) -> Tried {
     let p = asking::table_of(text);
     match family {
         Family::Texts => tried_if(texts::agrees(text)),
-        Family::Searches => tried_if(searches::agrees(p, words)),
-        Family::Fixpoints => fixpoints::tried(p, words),
-        Family::Candidates => tried_if(candidates::agrees(p, words)),
+        Family::Searches => tried_if(searches::agrees(p, ANY_DAY, words)),
+        Family::Fixpoints => fixpoints::tried(p, ANY_DAY, words),
+        Family::Candidates => tried_if(candidates::agrees(p, ANY_DAY, words)),
         Family::Summaries => tried_if(summaries::agrees(p, words)),
-        Family::Checks => tried_if(checks::agrees(p, words)),
+        Family::Checks => tried_if(checks::agrees(p, ANY_DAY, words)),
         Family::Nodes => tried_if(nodes::agrees(p, words)),
+        Family::Days => tried_if(days::agrees(text, words)),
         Family::Holdings => tried_if(holdings::agrees(text, words)),
     }
 }
@@ -125,7 +131,7 @@ fn step_to(tried: Tried, next: usize) -> Step
             counts: 1,
             next: next,
         },
-        Tried::NotAsked => Step {
+        Tried::NotAsked(_) => Step {
             differs: false,
             counts: 0,
             next: next,
@@ -193,6 +199,7 @@ fn print_family(family: Family) {
         Family::Summaries => saying::print(b"  summed up: "),
         Family::Checks => saying::print(b"  checks, with clause and subset: "),
         Family::Nodes => saying::print(b"  nodes counted: "),
+        Family::Days => saying::print(b"  weighed on a day: "),
         Family::Holdings => saying::print(b"  held, let go and kept: "),
     }
 }
@@ -248,11 +255,13 @@ fn try_file(path: &[u8], stored: Stored) -> bool {
         Stored::Summaries => try_family(Family::Summaries, &file[..n]),
         Stored::Checks => try_family(Family::Checks, &file[..n]),
         Stored::Nodes => try_family(Family::Nodes, &file[..n]),
+        Stored::Days => try_family(Family::Days, &file[..n]),
         Stored::Holdings => try_family(Family::Holdings, &file[..n]),
     }
 }
 
-// Document 01's samples, the paper's examples, random books with the models that an outside solver gives, lists with their summaries, candidates with their answers, trees with their counts, and clauses to hold.
+// Document 01's samples, the paper's examples, random books with the models that an outside solver gives, lists with their summaries,
+// candidates with their answers, trees with their counts, dated books with days, and clauses to hold.
 fn main() {
     let _ = try_file(b"samples", Stored::Models)
         && try_file(b"paper", Stored::Models)
@@ -260,5 +269,6 @@ fn main() {
         && try_file(b"summaries", Stored::Summaries)
         && try_file(b"checks", Stored::Checks)
         && try_file(b"nodes", Stored::Nodes)
+        && try_file(b"days", Stored::Days)
         && try_file(b"holdings", Stored::Holdings);
 }

@@ -1,6 +1,7 @@
 // A book is searched against the stored number of its nodes and, for each of its models, how many are visited when it is come to.
 use crate::START;
 use crate::asking;
+use crate::asking::ANY_DAY;
 use crate::saying;
 use answers::ANY;
 use answers::Answer;
@@ -13,7 +14,7 @@ use program::Program;
 fn ends(p: Program, limit: u64, lent: usize, expected: Answer) -> bool {
     let mut list = [FREE; PLACES];
     let n = lists::least(lent, PLACES);
-    let found = asking::search(p, limit, &mut list[START..n]);
+    let found = asking::search(p, ANY_DAY, limit, &mut list[START..n]);
     saying::agree(answers::SEARCH, expected, found)
 }
 

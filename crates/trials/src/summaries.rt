@@ -1,6 +1,7 @@
 // A list is summed up: which values each name shows and whether it is settled, against stored numbers.
 use crate::START;
 use crate::asking;
+use crate::asking::ANY_DAY;
 use crate::saying;
 use crate::searches;
 use answers::FREE;
@@ -74,7 +75,7 @@ pub fn agrees(p: Program, numbers: &[u32]) -> bool {
     if m < 2 * n {
         return saying::is_number(answers::RECORD, 2 * n as u64, m as u64, 0);
     }
-    if (0 < p.clause_count) && !searches::lists_all(p, &numbers[2 * n..m]) {
+    if (0 < p.clause_count) && !searches::lists_all(p, ANY_DAY, &numbers[2 * n..m]) {
         return false;
     }
     is_summed(

@@ -13,6 +13,8 @@ pub ruleset rules = (
   laws.place-at,
   laws.places-same,
   laws.place-is,
+  laws.named-is,
+  laws.name-at,
   laws.names-none,
   laws.names-many,
   laws.names-are,

@@ -1,11 +1,12 @@
 // The test of refusal 9: whether the reader could give a table, but for a clause that it may hold.
 ghost use mathlib.Core.Path.{_≡_};
 ghost use Prim.Native.Nat.{_+_, _≤_, _<_};
+ghost use lib.ListN.{take};
 ghost use Rattle.sets.specs.Lists.{every, anyOf, onward, tabulate};
-ghost use Rattle.lists.specs.Bytes.{same, distinct};
+ghost use Rattle.lists.specs.Bytes.{index, same, distinct};
 ghost use Rattle.program.specs.Clauses.{clauseOf, clauseAt};
-ghost use Rattle.program.specs.Names.{place};
-ghost use Rattle.program.specs.Valid.{zeroFrom, isPlace, namesValid, isClause, clausesValid, heldValid, valid};
+ghost use Rattle.program.specs.Names.{place, nameAt, endsDated};
+ghost use Rattle.program.specs.Valid.{zeroFrom, isPlace, namesValid, isClause, clausesValid, daysFit, daysValid, heldValid, valid};
 use program::HeldClause;
 use program::Program;
 
@@ -110,8 +111,37 @@ fn places_differ(names: &[u8; program::ALL_NAME_BYTES], n: usize) -> bool
     true
 }
 
-fn names_valid(names: &[u8; program::ALL_NAME_BYTES], n: usize) -> bool
-    ensures { λ r. ⌜ r ≡ namesValid (now (names .entry)) n ⌝ }
+// Whether the bytes before the first zero are this word.
+fn is_named(s: &[u8], word: &[u8]) -> bool
+    ensures { λ r. ⌜ r ≡ same (take (index 0 (now (s .entry))) (now (s .entry))) (now (word .entry)) ⌝ }
+{
+    let n = lists::end_of(s, 0, 0);
+    lists::same_bytes(&s[..n], word)
+}
+
+fn name_is(names: &[u8; program::ALL_NAME_BYTES], i: usize, word: &[u8]) -> bool
+    requires { ⌜ i < 12 ⌝ }
+    ensures { λ r. ⌜ r ≡ same (nameAt (now (names .entry)) i) (now (word .entry)) ⌝ }
+{
+    let a = program::NAME_BYTES * i;
+    let e = a + program::NAME_BYTES;
+    let all = &names[..];
+    is_named(&all[a..e], word)
+}
+
+// Whether the names end in from, to behind another: a book with them would be read as dated.
+fn ends_dated(names: &[u8; program::ALL_NAME_BYTES], n: usize) -> bool
+    requires { ⌜ n ≤ 12 ⌝ }
+    ensures { λ r. ⌜ r ≡ endsDated (tabulate (nameAt (now (names .entry))) n) ⌝ }
+{
+    if n < 3 {
+        return false;
+    }
+    name_is(names, n - 2, b"from") & name_is(names, n - 1, b"to")
+}
+
+fn names_valid(dated: bool, names: &[u8; program::ALL_NAME_BYTES], n: usize) -> bool
+    ensures { λ r. ⌜ r ≡ namesValid dated (now (names .entry)) n ⌝ }
 {
     if n < 1 {
         return false;
@@ -119,7 +149,10 @@ fn names_valid(names: &[u8; program::ALL_NAME_BYTES], n: usize) -> bool
     if program::MOST_ATOMS < n {
         return false;
     }
-    places_hold(names, n) & places_differ(names, n) & zero_bytes(names, program::NAME_BYTES * n)
+    places_hold(names, n)
+        & places_differ(names, n)
+        & zero_bytes(names, program::NAME_BYTES * n)
+        & (dated | !ends_dated(names, n))
 }
 
 // ---- the clauses of a table
@@ -171,15 +204,43 @@ fn clauses_valid<'a>(
         & zero_words(nafs, count)
 }
 
+// ---- the days of a table
+// Whether the days are in order, and both 0 where there are none.
+fn days_fit(has: bool, first: u16, last: u16) -> bool
+    ensures { λ r. ⌜ r ≡ daysFit has first last ⌝ }
+{
+    (first <= last) & (has | (last == 0))
+}
+
+fn days_valid<'a>(
+    dated: bool,
+    firsts: &'a [u16; program::MOST_CLAUSES],
+    lasts: &'a [u16; program::MOST_CLAUSES],
+    count: usize,
+) -> bool
+    ensures { λ r. ⌜ r ≡ daysValid dated (now (firsts .entry)) (now (lasts .entry)) count ⌝ }
+{
+    let mut k: usize = 0;
+    while k < program::MOST_CLAUSES {
+        if !days_fit(dated & (k < count), firsts[k], lasts[k]) {
+            return false;
+        }
+        k += 1;
+    }
+    true
+}
+
 // ---- the separate place
 // Whether it has a clause that may be held, or nothing and is zero.
-fn held_valid(held: HeldClause, count: usize, n: usize) -> bool
-    ensures { λ r. ⌜ r ≡ heldValid held count n ⌝ }
+fn held_valid(dated: bool, held: HeldClause, count: usize, n: usize) -> bool
+    ensures { λ r. ⌜ r ≡ heldValid dated held count n ⌝ }
 {
     if held.in_use {
-        return is_clause(n, held.head, held.body, held.naf) & (count < program::MOST_CLAUSES);
+        return is_clause(n, held.head, held.body, held.naf)
+            & (count < program::MOST_CLAUSES)
+            & days_fit(dated, held.first, held.last);
     }
-    (held.head == 0) & (held.body == 0) & (held.naf == 0)
+    (held.head == 0) & (held.body == 0) & (held.naf == 0) & days_fit(false, held.first, held.last)
 }
 
 // Whether the reader could give `p`, but for a clause that it may hold.
@@ -188,9 +249,11 @@ pub fn is_valid(p: Program) -> bool
 {
     let n = p.atom_count;
     let count = p.clause_count;
+    let dated = p.dated;
     let names = p.atom_names;
     let held = p.held;
-    names_valid(&names, n)
+    names_valid(dated, &names, n)
         & clauses_valid(&p.heads, &p.bodies, &p.nafs, count, n)
-        & held_valid(held, count, n)
+        & days_valid(dated, &p.firsts, &p.lasts, count)
+        & held_valid(dated, held, count, n)
 }

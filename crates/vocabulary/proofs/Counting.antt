@@ -6,16 +6,17 @@ use lib.Count.{ones, ones-le}
 use lib.ListN.{length}
 use mathlib.Core.Bool.{true}
 use mathlib.Core.List.{List}
-use mathlib.Core.Path.{_≡_, sym, ap, _∙_}
+use mathlib.Core.Path.{_≡_, sym, ap, ap₂, _∙_}
 use mir.Syntax.{w32}
 use mir.Val.{Fits}
 use native.Mathlib.Omega.{arith}
 use Rattle.sets.specs.Lists.{onward, tabulate}
 use Rattle.sets.proofs.Lists.{onward-start, onward-step, onward-done}
 use Rattle.program.specs.declared.Program.{Program}
-use Rattle.program.specs.Clauses.{Clause, clauseOf, clauseAt, rows, clauses}
+use Rattle.program.specs.Clauses.{Clause, clauseOf, clauseAt, standing}
 use Rattle.program.specs.Valid.{valid}
 use Rattle.program.proofs.Validity.{valid-names, valid-clauses}
+use Rattle.program.proofs.Days.{DayTable}
 use Rattle.literals.specs.Literals.{literals}
 use Rattle.literals.proofs.Literals.{literals-length}
 use Rattle.transform.specs.Transform.{standIns, allStandIns, members}
@@ -73,9 +74,14 @@ module _ (p : Program) (v : valid p ≡ true) where
   pub column-fits : (xs : List ℕ) → length xs ≡ 64 → p .«clause_count» ≤ length xs
   column-fits xs l = omega (arith, clauses-few)
 
-  pub counted : (m : ℕ) → m ≡ literalsOf p → (st : ℕ) → st ≡ allStandIns (tabulate (clauseAt (p .heads) (p .bodies) (p .nafs)) (p .«clause_count»)) → m + m + st ≡ vocabulary p
-  unfolding vocabulary members clauses rows
+  pub counted : (m : ℕ) → m ≡ literalsOf p → (st : ℕ) → st ≡ allStandIns (tabulate (clauseAt (p .heads) (p .bodies) (p .nafs)) (p .«clause_count»)) → m + m + st ≡ members (literalsOf p) (standing p)
+  unfolding members standing
   counted m e st h = omega (arith, e, h)
+
+-- W of the day's table is W of the day
+pub of-day : (p : Program) (d : ℕ) (q : Program) → DayTable p d q → members (literalsOf q) (standing q) ≡ vocabulary p d
+unfolding vocabulary
+of-day p d q t = ap₂ (λ (n : ℕ) (C : List Clause). members (2 * n) C) (t .atoms) (t .standing-are)
 
 -- what `search` is handed for the bounds of a table's columns
 pub ruleset columns = (clauses-few, column-fits, needs)

@@ -1,13 +1,13 @@
-// W: how many members the vocabulary of a table's transform has.
+// W: how many members the vocabulary of the transform of a table's clauses has.
 ghost use mathlib.Core.Path.{_≡_};
 ghost use mathlib.Core.Bool.{true};
 ghost use Prim.Native.Nat.{_*_, _≤_};
 ghost use lib.ListN.{length};
 ghost use Rattle.sets.specs.Lists.{tabulate};
-ghost use Rattle.program.specs.Clauses.{clauseOf, clauseAt};
+ghost use Rattle.program.specs.Clauses.{clauseOf, clauseAt, standing};
 ghost use Rattle.program.specs.Valid.{valid};
-ghost use Rattle.transform.specs.Transform.{standIns, allStandIns};
-ghost use Rattle.vocabulary.specs.Vocabulary.{vocabulary};
+ghost use Rattle.transform.specs.Transform.{standIns, allStandIns, members};
+ghost use Rattle.vocabulary.specs.Vocabulary.{literalsOf};
 use program::Program;
 
 // How many stand-ins a clause gets.
@@ -42,10 +42,10 @@ pub fn literal_count(atoms: usize) -> u32
     (2 * atoms) as u32
 }
 
-// W: how many members the vocabulary of a valid table has.
+// W of a valid table all of whose clauses count, as those of the table of a day do.
 pub fn member_count(p: Program) -> u32
     requires { ⌜ valid p ≡ true ⌝ }
-    ensures { λ r. ⌜ r ≡ vocabulary p ⌝ }
+    ensures { λ r. ⌜ r ≡ members (literalsOf p) (standing p) ⌝ }
 {
     let m = literal_count(p.atom_count);
     let stands = count_stand_ins(&p.heads, &p.bodies, &p.nafs, p.clause_count);

@@ -4,15 +4,18 @@ ghost use mathlib.Core.Bool.{true};
 ghost use mathlib.Core.List.{flatMap};
 ghost use Prim.Native.Nat.{_≤_};
 ghost use lib.ListN.{length};
+ghost use Rattle.sets.specs.Lists.{tabulate};
 ghost use Rattle.lists.specs.Bytes.{Wrote};
-ghost use Rattle.program.specs.Clauses.{clauseOf};
+ghost use Rattle.program.specs.Clauses.{clauseOf, rowOf};
+ghost use Rattle.program.specs.Names.{nameAt};
 ghost use Rattle.program.specs.Valid.{valid};
 ghost use Rattle.program.specs.Values.{clauseValue, clauseValues};
-ghost use Rattle.text.specs.Lines.{valuesLine};
-ghost use Rattle.text.specs.Render.{valuesOf, render};
+ghost use Rattle.text.specs.Lines.{namesLine, valuesLine};
+ghost use Rattle.text.specs.Render.{bookItems, rowNumbers, numbersOf, render};
 ghost use Rattle.text.specs.Writing.{Writes};
 ghost use Rattle.lines.specs.Laying.{Room};
 use program::Program;
+use text::SPACE;
 use text::Written;
 
 // A text of more bytes is no book, and no table has one so long.
@@ -41,7 +44,7 @@ fn clause_values(head: u32, body: u32, naf: u32) -> [u64; program::MOST_ATOMS]
     out
 }
 
-// The line of a clause at the front of `out`.
+// The line of the values of a clause at the front of `out`.
 fn put_clause_line(out: &mut [u8], head: u32, body: u32, naf: u32, n: usize) -> usize
     requires { ⌜ Room n 12 (valuesLine (clauseValues n (clauseOf head body naf))) (now out) ⌝ }
     ensures { λ r. ⌜ Wrote (valuesLine (clauseValues n (clauseOf head body naf))) (now (out .entry)) r (now (out .exit)) ⌝ }
@@ -50,20 +53,47 @@ fn put_clause_line(out: &mut [u8], head: u32, body: u32, naf: u32, n: usize) -> 
     lines::put_values_line(out, &values, n)
 }
 
-// The lines of the clauses, each placed behind the last.
-fn put_clause_lines(p: Program, out: &mut [u8]) -> usize
-    requires { ⌜ (p .«clause_count» ≤ 64) × Room (p .«atom_count») 12 (flatMap valuesLine (valuesOf p)) (now out) ⌝ }
-    ensures { λ r. ⌜ Wrote (flatMap valuesLine (valuesOf p)) (now (out .entry)) r (now (out .exit)) ⌝ }
+// The line of a row at the front of `out`: of a dated book the end of the line of its values becomes a space, and its days stand behind.
+fn put_row_line(
+    out: &mut [u8],
+    head: u32,
+    body: u32,
+    naf: u32,
+    first: u16,
+    last: u16,
+    n: usize,
+    dated: bool,
+) -> usize
+    requires { ⌜ Room n 12 (valuesLine (rowNumbers dated n (rowOf (clauseOf head body naf) first last))) (now out) ⌝ }
+    ensures { λ r. ⌜ Wrote (valuesLine (rowNumbers dated n (rowOf (clauseOf head body naf) first last))) (now (out .entry)) r (now (out .exit)) ⌝ }
+{
+    let a = put_clause_line(out, head, body, naf, n);
+    if !dated {
+        return a;
+    }
+    out[a - 1] = SPACE;
+    let days = [first as u64, last as u64];
+    let b = lines::put_values_line(&mut out[a..], &days, 2);
+    a + b
+}
+
+// The lines of the rows, each placed behind the last.
+fn put_row_lines(p: Program, out: &mut [u8]) -> usize
+    requires { ⌜ (p .«clause_count» ≤ 64) × Room (p .«atom_count») 12 (flatMap valuesLine (numbersOf p)) (now out) ⌝ }
+    ensures { λ r. ⌜ Wrote (flatMap valuesLine (numbersOf p)) (now (out .entry)) r (now (out .exit)) ⌝ }
 {
     let mut at: usize = 0;
     let mut k: usize = 0;
     while k < p.clause_count {
-        let l = put_clause_line(
+        let l = put_row_line(
             &mut out[at..],
             p.heads[k],
             p.bodies[k],
             p.nafs[k],
+            p.firsts[k],
+            p.lasts[k],
             p.atom_count,
+            p.dated,
         );
         at = at + l;
         k += 1;
@@ -71,13 +101,32 @@ fn put_clause_lines(p: Program, out: &mut [u8]) -> usize
     at
 }
 
+// The names line at the front of `out`: of a dated book the end of the line of its names becomes a space, and the two words stand behind.
+fn put_first_line(
+    out: &mut [u8],
+    names: &[u8; program::ALL_NAME_BYTES],
+    n: usize,
+    dated: bool,
+) -> usize
+    requires { ⌜ Room n 12 (namesLine (bookItems dated (tabulate (nameAt (now names)) n))) (now out) ⌝ }
+    ensures { λ r. ⌜ Wrote (namesLine (bookItems dated (tabulate (nameAt (now (names .entry))) n))) (now (out .entry)) r (now (out .exit)) ⌝ }
+{
+    let a = lines::put_names_line(out, names, n);
+    if !dated {
+        return a;
+    }
+    out[a - 1] = SPACE;
+    let b = lists::put_bytes(&mut out[a..], b"from to\n");
+    a + b
+}
+
 // The whole text at the front of `out`.
 fn put_text(p: Program, out: &mut [u8]) -> usize
     requires { ⌜ (p .«clause_count» ≤ 64) × Room (p .«atom_count») 12 (render p) (now out) ⌝ }
     ensures { λ r. ⌜ Wrote (render p) (now (out .entry)) r (now (out .exit)) ⌝ }
 {
-    let a = lines::put_names_line(out, &p.atom_names, p.atom_count);
-    let b = put_clause_lines(p, &mut out[a..]);
+    let a = put_first_line(out, &p.atom_names, p.atom_count, p.dated);
+    let b = put_row_lines(p, &mut out[a..]);
     a + b
 }
 

@@ -14,4 +14,4 @@ returns-3 : tie.Need-returns-3
 returns-3 c = search gives-new
 
 pub hold-spec : {M : Type 1} → statement M
-hold-spec = tie.close (tie.spec (λ c κs. search needs) (λ c κs. search needs) returns (λ c κs. search hold-few) returns-2 returns-3)
+hold-spec = tie.close (tie.spec (λ c κs. search needs) (λ c κs. search needs) (λ c κs. search needs) returns (λ c κs. search hold-few) returns-2 returns-3)

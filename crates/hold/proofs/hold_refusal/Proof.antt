@@ -10,5 +10,11 @@ returns-2 c = search refuses
 returns-3 : tie.Need-returns-3
 returns-3 c = search refuses
 
+returns-4 : tie.Need-returns-4
+returns-4 c = search refuses
+
+returns-5 : tie.Need-returns-5
+returns-5 c = search refuses
+
 pub hold-refusal-spec : {M : Type 1} → statement M
-hold-refusal-spec = tie.close (tie.spec (λ c κs. search needs) (λ c. search refuses) returns-2 (λ c κs. search needs) returns-3 (λ c. search refuses) (λ c. search refuses))
+hold-refusal-spec = tie.close (tie.spec (λ c κs. search needs) (λ c. search refuses) returns-2 (λ c κs. search needs) returns-3 returns-4 returns-5 (λ c. search refuses))

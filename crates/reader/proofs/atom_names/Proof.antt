@@ -1,7 +1,7 @@
--- `reader::atom_names` puts the items of the first line, which are the names, into a table of zeros. Assumes nothing.
+-- `reader::atom_names` puts the items before the names' end, which are the names, into a table of zeros. Assumes nothing.
 use borrow.Author.Needs.{needs}
-use Rattle.program.proofs.Places.{up-to}
-use Rattle.reader.proofs.Answers.{each-named, few-named, names-put}
+use Rattle.namesline.proofs.Items.{front-long}
+use Rattle.reader.proofs.Answers.{has-line, each-named, few-named, names-put}
 use Rattle.reader.proofs.atom_names.Statement.{statement}
 use Rattle.reader.proofs.atom_names.Tie as tie
 
@@ -9,4 +9,4 @@ pub atom-names-spec : {M : Type 1} → statement M
 atom-names-spec =
     tie.close
     (tie.spec
-    (λ c. search needs) (λ c. search (up-to, needs)) (λ c. search (up-to, needs)) (λ c. search (each-named, few-named, needs)) (λ c. search names-put))
+    (λ c. search has-line) (λ c. search needs) (λ c. search (front-long, needs)) (λ c. search (each-named, few-named, needs)) (λ c. search names-put))

@@ -11,4 +11,4 @@ returns-2 : tie.Need-returns-2
 returns-2 c = search unused-is
 
 pub held-valid-spec : {M : Type 1} → statement M
-held-valid-spec = tie.close (tie.spec (λ c κs. search needs) returns returns-2)
+held-valid-spec = tie.close (tie.spec (λ c κs. search needs) (λ c κs. search needs) returns (λ c κs. search needs) returns-2)

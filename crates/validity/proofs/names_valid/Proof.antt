@@ -1,4 +1,4 @@
--- `validity::names_valid` meets its contract: `names-none` and `names-many` for a count out of range, else `names-are` joins the three tests. Assumes nothing.
+-- `validity::names_valid` meets its contract: `names-none` and `names-many` for a count out of range, else `names-are` joins the four tests. Assumes nothing.
 use Rattle.validity.proofs.Laws.{names-are, names-many, names-none}
 use borrow.Author.Needs.{needs}
 use Rattle.validity.proofs.names_valid.Statement.{statement}
@@ -9,4 +9,4 @@ returns-3 c = search names-are
 
 pub names-valid-spec : {M : Type 1} → statement M
 names-valid-spec = tie.close (tie.spec (λ c. search names-none) (λ c. search names-many) (λ c. search needs) (λ c. search needs) (λ c. search needs) (λ c. search needs)
-    returns-3)
+    (λ c κs. search needs) returns-3)

@@ -1,4 +1,4 @@
--- `writer::put_text`: the names line, and the lines of the clauses behind it, by the laws of one text behind the other. Assumes nothing.
+-- `writer::put_text`: the names line, and the lines of the rows behind it, by the laws of one text behind the other. Assumes nothing.
 use native.Mathlib.Omega.{arith}
 use borrow.Author.Needs.{needs}
 use Rattle.program.specs.Names.{namesOf}
@@ -13,7 +13,7 @@ add-result c =
     let at-second = c .before .before in
     let at-first = at-second .before .before .before .before in
     let at-start = at-first .before .before .before .before .before in
-    both-fits _ _ _ _ _ _ _ (at-first .put-names-line .ensures) (at-start .pre .1) _ _ (at-second .put-clause-lines .ensures) (omega arith)
+    both-fits _ _ _ _ _ _ _ (at-first .put-first-line .ensures) (at-start .pre .1) _ _ (at-second .put-row-lines .ensures) (omega arith)
 
 pub put-text-spec : {M : Type 1} → statement M
 unfolding render bookText namesOf

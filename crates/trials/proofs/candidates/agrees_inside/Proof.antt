@@ -5,10 +5,10 @@ use Rattle.trials.proofs.candidates.agrees_inside.Statement.{statement}
 use Rattle.trials.proofs.candidates.agrees_inside.Tie as tie
 
 abbrev Inv-loop : tie.InvT-loop
-Inv-loop p words m last j₀ j = j ≤ last
+Inv-loop p day words m last j₀ j = j ≤ last
 
 abbrev μ-loop : tie.MeasureT-loop
-μ-loop p words m last j₀ j = last - j
+μ-loop p day words m last j₀ j = last - j
 
 pub agrees-inside-spec : {M : Type 1} → statement M
 agrees-inside-spec =

@@ -7,10 +7,10 @@ use Rattle.trials.proofs.checks.agrees.Statement.{statement}
 use Rattle.trials.proofs.checks.agrees.Tie as tie
 
 abbrev Inv-loop : tie.InvT-loop
-Inv-loop p numbers m k₀ k = (m ≡ length numbers) × (k ≤ m)
+Inv-loop p day numbers m k₀ k = (m ≡ length numbers) × (k ≤ m)
 
 abbrev μ-loop : tie.MeasureT-loop
-μ-loop p numbers m k₀ k = m - k
+μ-loop p day numbers m k₀ k = m - k
 
 pub agrees-spec : {M : Type 1} → statement M
 agrees-spec =

@@ -1,0 +1,120 @@
+-- The rows of a day, gathered as a set; the table of just those has the clauses of the day. Assumes nothing.
+use mathlib.Core.Path.{_≡_, refl, sym, ap, _∙_, subst}
+use mathlib.Core.Bool.{Bool, true, false, not, _&&_, _||_, and-false, or-false, or-true}
+use mathlib.Core.Logic.{_↔_, _⊎_, inl, inr}
+use mathlib.Core.List.{List, [], _∷_, map}
+use Prim.Native.Nat.{ℕ, _+_, _*_, _%_, _^_, _≤_, _<_}
+use native.Mathlib.Omega.{arith}
+use lib.Bits.{bitOr}
+use lib.Dec.{eqb, leb, ltb}
+use lib.ListN.{length, getD}
+use borrow.Author.Tests.{ltb-true, ltb-false, lt-ltb, le-ltb, eqb-true, eqb-false, leb-true, le-leb}
+use Rattle.sets.specs.Lists.{_∈_, sift}
+use Rattle.sets.specs.Words.{bit}
+use Rattle.sets.proofs.Tests.{dec, via-true, via-false, both-true, and-is-true}
+use Rattle.sets.proofs.Lists.{in-map, map-in, sift-in, sift-out, length-tabulate, getD-tabulate}
+use Rattle.sets.proofs.Digits.{bit-zero, bit-or, bit-pow}
+use Rattle.sets.proofs.Highest.{one-shl}
+use Rattle.program.specs.declared.Program.{Program}
+use Rattle.program.specs.Clauses.{Row, rowAt, rows, standing, noRow}
+use Rattle.program.specs.Days.{isOfDay, ofDay, clauses, RowsOfDay, OfDay}
+use Rattle.program.specs.Only.{onlyOf}
+use Rattle.program.specs.Valid.{valid}
+use Rattle.program.proofs.Validity.{valid-clauses}
+use Rattle.program.proofs.Chosen.{chosen-by, only-rows, only-valid, standing-rows}
+
+-- ---- the loop that gathers them
+-- one number more
+below-more : (i k : ℕ) → ltb i (k + 1) ≡ (ltb i k || eqb i k)
+below-more i k = go (dec (ltb i k)) (dec (eqb i k))
+  where
+    go : (ltb i k ≡ true) ⊎ (ltb i k ≡ false) → (eqb i k ≡ true) ⊎ (eqb i k ≡ false) → ltb i (k + 1) ≡ (ltb i k || eqb i k)
+    go (inl e) f = rw e (lt-ltb i (k + 1) (omega (arith, ltb-true i k e)))
+    go (inr e) (inl f) = rw (e, f) (lt-ltb i (k + 1) (omega (arith, eqb-true i k f)))
+    go (inr e) (inr f) = rw (e, f) (le-ltb i (k + 1) (omega (arith, ltb-false i k e, eqb-false i k f)))
+
+module _ (p : Program) (d : ℕ) where
+  -- below k the rows of the day are gathered
+  pub record Gathering (k w : ℕ) : Type 0 where
+    pub within : k ≤ 64
+    pub bits : (i : ℕ) → bit w i ≡ ltb i k && ofDay p d (rowAt p i)
+
+  pub gather-start : Gathering 0 0
+  gather-start = record { within = omega arith; bits = λ i. bit-zero i ∙ sym (ap (λ b. b && ofDay p d (rowAt p i)) (le-ltb i 0 (omega arith))) }
+
+  pub gather-skip : (k w : ℕ) {r : Bool} → Gathering k w → k < 64 → r ≡ ofDay p d (rowAt p k) → not r ≡ true → Gathering (k + 1) w
+  gather-skip k w s h e f = record { within = omega arith; bits = λ i. s .bits i ∙ sym (rw (below-more i k) (go i (ltb i k) (dec (eqb i k)))) }
+    where
+      go : (i : ℕ) (b : Bool) → (eqb i k ≡ true) ⊎ (eqb i k ≡ false) → (b || eqb i k) && ofDay p d (rowAt p i) ≡ b && ofDay p d (rowAt p i)
+      go i b (inl q) = let z : ofDay p d (rowAt p i) ≡ false = ap (λ j. ofDay p d (rowAt p j)) (eqb-true i k q) ∙ via-false e f in rw (z, and-false, and-false)
+      go i b (inr q) = rw (q, or-false)
+
+  pub gather-one : (k w : ℕ) {r : Bool} → Gathering k w → k < 64 → r ≡ ofDay p d (rowAt p k) → not r ≡ false → Gathering (k + 1) (bitOr w (1 * 2 ^ k % 2 ^ 64))
+  gather-one k w s h e f = record {
+    within = omega arith;
+    bits = λ i. ap (λ x. bit (bitOr w x) i) (one-shl 64 k h) ∙ bit-or w (2 ^ k) i ∙ rw (bit-pow k i, s .bits i, below-more i k) (go i (ltb i k) (dec (eqb i k)));
+  }
+    where
+      go : (i : ℕ) (b : Bool) → (eqb i k ≡ true) ⊎ (eqb i k ≡ false) → ((b && ofDay p d (rowAt p i)) || eqb i k) ≡ (b || eqb i k) && ofDay p d (rowAt p i)
+      go i b (inl q) = let z : ofDay p d (rowAt p i) ≡ true = ap (λ j. ofDay p d (rowAt p j)) (eqb-true i k q) ∙ via-true e f in rw (z, q, or-true, or-true)
+      go i b (inr q) = rw (q, or-false, or-false)
+
+  pub gather-done : (k w : ℕ) → Gathering k w → 64 ≤ k → RowsOfDay p d w
+  gather-done k w s h = let e : k ≡ 64 = omega (arith, s .within) in record { exactly = λ i. s .bits i ∙ ap (λ n. ltb i n && ofDay p d (rowAt p i)) e }
+
+-- ---- the table of them
+pub length-rows : (p : Program) → length (rows p) ≡ p .«clause_count»
+unfolding rows
+length-rows p = length-tabulate (rowAt p) (p .«clause_count»)
+
+pub row-is : (p : Program) (k : ℕ) → k < p .«clause_count» → getD (rows p) k noRow ≡ rowAt p k
+unfolding rows
+row-is p k h = getD-tabulate (rowAt p) (p .«clause_count») k noRow h
+
+-- it is valid, it has the names of the table, and the clauses that stand in it are the clauses of the day
+pub record DayTable (p : Program) (d : ℕ) (q : Program) : Type 0 where
+  pub is-valid : valid q ≡ true
+  pub atoms : q .«atom_count» ≡ p .«atom_count»
+  pub standing-are : standing q ≡ clauses p d
+
+pub day-table : (p : Program) (d w : ℕ) → valid p ≡ true → RowsOfDay p d w → DayTable p d (onlyOf p w)
+unfolding onlyOf clauses
+day-table p d w v s = record { is-valid = only-valid p v w; atoms = refl; standing-are = of-day }
+  where
+    at : (k : ℕ) → k < length (rows p) → bit w k ≡ ofDay p d (getD (rows p) k noRow)
+    at k h =
+        let l : k < p .«clause_count» = omega (arith, h, length-rows p) in
+        s .exactly k ∙ ap (λ b. b && ofDay p d (rowAt p k)) (lt-ltb k 64 (omega (arith, valid-clauses p v .short))) ∙ ap (ofDay p d) (sym (row-is p k l))
+
+    of-day : standing (onlyOf p w) ≡ clauses p d
+    of-day =
+        standing-rows (onlyOf p w)
+        ∙ ap (map (λ r. r .clause)) (only-rows p w ∙ chosen-by (bit w) (ofDay p d) (rows p) at)
+
+-- ---- what is of the day
+all-pass : {A : Type 0} (t : A → Bool) (l : List A) → ((x : A) → t x ≡ true) → sift t l ≡ l
+unfolding sift
+all-pass t [] h = refl
+all-pass t (x ∷ l) h = rw (h x, all-pass t l h)
+
+-- the test of a row of a dated table
+in-days : (p : Program) (d : ℕ) → p .dated ≡ true → (r : Row) → (ofDay p d r ≡ true) ↔ ((r .first ≤ d) × (d ≤ r .last))
+unfolding isOfDay
+in-days p d e r = (
+  λ t. let b = both-true (leb (r .first) d) (leb d (r .last)) (sym (rw e) ∙ t) in (leb-true _ _ (b .0), leb-true _ _ (b .1)),
+  λ h. rw e (and-is-true _ _ (le-leb _ _ (h .0)) (le-leb _ _ (h .1))),
+)
+
+pub of-day-exactly : (p : Program) (d : ℕ) → OfDay p d
+unfolding isOfDay clauses
+of-day-exactly p d = record {
+  dated = λ e c. (
+    λ m. let s = map-in (λ (r : Row). r .clause) c (sift (ofDay p d) (rows p)) m in
+        let t = sift-out (ofDay p d) (rows p) (s .0) (s .1) in
+        let b = in-days p d e (s .0) .0 (t .1) in
+        (s .0, t .0, (s .2, b .0, b .1)),
+    λ s. subst (λ z. z ∈ map (λ (r : Row). r .clause) (sift (ofDay p d) (rows p))) (sym (s .2 .0))
+        (in-map (λ (r : Row). r .clause) (s .0) (sift (ofDay p d) (rows p)) (sift-in (ofDay p d) (rows p) (s .0) (s .1) (in-days p d e (s .0) .1 (s .2 .1, s .2 .2)))),
+  );
+  undated = λ e. ap (map (λ r. r .clause)) (all-pass (ofDay p d) (rows p) (λ r. rw e)) ∙ sym (standing-rows p);
+}
