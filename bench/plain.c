@@ -6,13 +6,13 @@
 #include <string.h>
 #include <unistd.h>
 
-enum { MOST_BYTES = 4096, MOST_LINES = 65, MOST_ATOMS = 12, MOST_CLAUSES = 64, PLACES = 4096 };
+enum { MOST_BYTES = 4096, MOST_LINES = 65, MOST_ATOMS = 12, MOST_CLAUSES = 64, LITERALS = 2 * MOST_ATOMS, PLACES = 4096 };
 static const uint64_t LIMIT = 33554431;
 
 static unsigned char in[MOST_BYTES + 1], out[1 << 17];
 static size_t in_len, out_len;
 static size_t atoms, clauses;
-static uint32_t heads[MOST_CLAUSES], bodies[MOST_CLAUSES], nafs[MOST_CLAUSES], outs[MOST_CLAUSES];
+static uint32_t heads[MOST_CLAUSES], bodies[MOST_CLAUSES], nafs[MOST_CLAUSES];
 static size_t line_start[MOST_LINES + 1], line_end[MOST_LINES + 1], lines;
 
 /* ---- reading: the refusals 1 to 8, the lowest that applies */
@@ -93,43 +93,68 @@ static size_t written;
 static uint64_t visited;
 static enum { COMPLETE, FULL, SPENT } outcome;
 
-/* outs: what must be out for the clause to be violated, head and not-part. One pass tells whether the node is dead:
-   some clause is violated, or some literal of w has no clause that could still support it. */
-static inline bool node_dead(uint32_t w, uint32_t reach) {
-    uint32_t all = 0;
-    for (size_t i = 0; i < clauses; i++) {
-        if (((bodies[i] & ~w) | (outs[i] & reach)) == 0) return true;
-        uint32_t met = heads[i] & w;
-        all |= ((bodies[i] & ~reach) | (nafs[i] & w) | (met & (met - 1)) | (met & bodies[i])) == 0 ? met : 0;
+/* the rows by column: for each literal the rows that have it in the head, the body, the not-part, bit i for row i */
+static uint64_t in_heads[LITERALS], in_bodies[LITERALS], in_nafs[LITERALS], mentions[LITERALS];
+
+static void make_columns(void) {
+    for (size_t l = 0; l < LITERALS; l++) {
+        for (size_t i = 0; i < clauses; i++) {
+            in_heads[l] |= (uint64_t)(heads[i] >> l & 1) << i;
+            in_bodies[l] |= (uint64_t)(bodies[i] >> l & 1) << i;
+            in_nafs[l] |= (uint64_t)(nafs[i] >> l & 1) << i;
+        }
+        mentions[l] = in_heads[l] | in_bodies[l] | in_nafs[l];
     }
-    return (w & ~all) != 0;
 }
 
-static inline bool rules_out(uint32_t by, uint32_t w, uint32_t reach) {
-    for (size_t i = 0; i < clauses; i++)
+/* whether some row of the set rules out every word from w to reach */
+static inline bool rules_out(uint64_t rows, uint32_t by, uint32_t w, uint32_t reach) {
+    for (; rows; rows &= rows - 1) {
+        int i = __builtin_ctzll(rows);
         if (((bodies[i] & ~w) | (nafs[i] & by) | (heads[i] & reach)) == 0) return true;
+    }
     return false;
 }
 
-static bool has_smaller(uint32_t by, uint32_t held, uint32_t undecided) {
-    if (rules_out(by, held, held | undecided)) return false;
-    if (!undecided) return held != by;
-    uint32_t top = 1u << (31 - __builtin_clz(undecided)), rest = undecided ^ top;
-    return has_smaller(by, held, rest) || has_smaller(by, held | top, rest);
+/* whether some literal of w has no row in play that could still support it; a row with one in its head supports no other */
+static inline bool unsupported(uint64_t play, uint32_t w) {
+    for (uint32_t left = w; left; left &= left - 1) {
+        int l = __builtin_ctz(left);
+        uint64_t rows = in_heads[l] & play;
+        play ^= rows;
+        for (; rows; rows &= rows - 1) {
+            int i = __builtin_ctzll(rows);
+            if ((heads[i] & w) == 1u << l && !(bodies[i] >> l & 1)) break;
+        }
+        if (!rows) return true;
+    }
+    return false;
 }
 
-/* whether the search goes on */
-static bool visit(uint32_t k, uint32_t w) {
+static bool has_smaller(uint64_t rows, uint64_t asked, uint32_t by, uint32_t held, uint32_t undecided) {
+    if (rules_out(asked, by, held, held | undecided)) return false;
+    if (!undecided) return held != by;
+    uint32_t l = 31 - __builtin_clz(undecided), rest = undecided ^ 1u << l;
+    uint64_t mentioned = mentions[l] & rows;
+    return has_smaller(rows, mentioned, by, held, rest) || has_smaller(rows, mentioned, by, held | 1u << l, rest);
+}
+
+/* Whether the search goes on. play: the rows in play, without a body literal decided out or a not-literal decided in;
+   mentioned: those of the parent that mention the literal just decided. Support is looked for only where it could have been lost. */
+static bool visit(uint32_t k, uint32_t w, uint32_t reach, uint64_t play, uint64_t mentioned) {
     if (visited == LIMIT) { outcome = SPENT; return false; }
     visited++;
-    if (node_dead(w, w | ((1u << k) - 1))) return true;
+    if (rules_out(mentioned & play, reach, w, reach)) return true;
+    if (((w >> k & 1) || (mentioned & ~play)) && unsupported(play, w)) return true;
     if (k == 0) {
-        if (has_smaller(w, 0, w)) return true;
+        if (has_smaller(play, play, w, 0, w)) return true;
         if (written == PLACES) { outcome = FULL; return false; }
         models[written++] = w;
         return true;
     }
-    return visit(k - 1, w) && visit(k - 1, w | 1u << (k - 1));
+    uint32_t l = k - 1, bit = 1u << l;
+    uint64_t below = mentions[l] & play;
+    return visit(l, w, reach ^ bit, play & ~in_bodies[l], below) && visit(l, w | bit, reach, play & ~in_nafs[l], below);
 }
 
 /* ---- writing */
@@ -168,8 +193,9 @@ static void check(uint32_t candidate) {
 
 /* ---- the report */
 static void report(void) {
-    for (size_t i = 0; i < clauses; i++) outs[i] = heads[i] | nafs[i];
-    visit(2 * atoms, 0);
+    make_columns();
+    uint64_t rows = clauses ? ~0ull >> (MOST_CLAUSES - clauses) : 0;
+    visit(2 * atoms, 0, (1u << 2 * atoms) - 1, rows, rows);
     put(in, line_end[0] + 1);
     for (size_t m = 0; m < written; m++)
         for (size_t i = 0; i < atoms; i++) {

@@ -3,10 +3,13 @@
 the least processor time, user and system, of several turns, one program after the other; a time below 20 ms is the mean of as many runs as
 make that up, since of a shorter one the ratio says nothing. Compared are the report of every book of
 books/ and, for three of them, the check of the word of all twenty-four literals. Then the report against clingo (Debian's package gringo),
-asked for 4,097 models of the positive form: wall clock of the whole process, the least of ten, on the same books and on random ones.
+asked for 4,097 models of the positive form: wall clock of the whole process, the least of ten, on the same books and on random ones; where
+clingo is a bar, the report takes at most 0.7 of its time.
 Then the fixpoint of each book of stages/, by target/bin/pstable with 65,536 words in each working slice, against a limit in seconds;
 and the tools that look for what the documents name. With books named, only their reports are compared with C.
-From the repository's root: rt check report pstable && python3 bench/run.py [RUNS [BOOK ..]]"""
+With --against PROGRAM only the report and another build of it, as that of an earlier commit, are compared, on the books of a million nodes
+and more: on none slower by more than a tenth, and faster in their sum.
+From the repository's root: rt check report pstable && python3 bench/run.py [RUNS [BOOK .. | --against PROGRAM]]"""
 import os
 import random
 import resource
@@ -73,7 +76,7 @@ def compare(label, program, books, times, *words):
 
 # ---- clingo
 # books in which support stays open until the lowest literals are decided: their trees have a million nodes and more, and clingo is no bar for them
-LATE = ("late_choices", "late_default", "late_many", "late_support")
+LATE = ("late_choices", "late_default", "late_heads", "late_many", "late_support")
 
 
 def from_file(name):
@@ -115,7 +118,7 @@ def same_models(out, answer):
 
 
 def against_clingo(books):
-    """A line for each book; whether the report lists the same models, and takes no longer than clingo on each that has a bar."""
+    """A line for each book; whether the report lists the same models, and takes at most 0.7 of clingo's time on each that has a bar."""
     if not shutil.which("clingo"):
         print("clingo is not there")
         return False
@@ -129,10 +132,29 @@ def against_clingo(books):
             well, last = False, "THE MODELS DIFFER"
         elif name in LATE:
             last += "  (no bar)"
-        elif a > c:
+        elif a > 0.7 * c:
             well, last = False, last + "  (slow)"
         print("%-14s %8.4f %8.4f %6.2f  %s" % (name, a, c, a / c, last))
     return well
+
+
+def against(program):
+    """A line for each book of a million nodes and more; whether the report prints the same, no slower than the bars say."""
+    well, sums = True, [0, 0]
+    print("%-14s %8s %8s %6s  %s" % ("books", "report", "other", "ratio", "last line"))
+    for book in LATE:
+        tries = [(run(report, in_books(book)), run(program, in_books(book))) for _ in range(runs)]
+        least = [min(t[k][0] for t in tries) for k in (0, 1)]
+        sums = [sums[k] + least[k] for k in (0, 1)]
+        outs = {t[k][1] for t in tries for k in (0, 1)}
+        last = last_line(min(outs))
+        if len(outs) != 1:
+            well, last = False, "THE OUTPUTS DIFFER"
+        if least[0] > 1.1 * least[1]:
+            well, last = False, last + "  (slow)"
+        print("%-14s %8.4f %8.4f %6.2f  %s" % (book, *least, least[0] / least[1], last))
+    print("%-14s %8.4f %8.4f %6.2f" % ("sum", *sums, sums[0] / sums[1]))
+    return well and sums[0] < sums[1]
 
 
 def within(name, limit, end):
@@ -149,6 +171,8 @@ def tool(name):
     return subprocess.run([sys.executable, os.path.join(here, "..", "tools", name)]).returncode == 0
 
 
+if sys.argv[2:3] == ["--against"] and len(sys.argv) == 4:
+    sys.exit(not against(os.path.abspath(sys.argv[3])))
 if len(sys.argv) > 2:
     sys.exit(not compare("books", report, sys.argv[2:], runs))
 names = sorted(os.listdir(in_books("")))

@@ -9,13 +9,14 @@ use lib.Bits.{bitAnd}
 use Rattle.epistemic.proofs.Kappa.{RModel, of-reduct, to-reduct}
 use Rattle.epistemic.proofs.Naming.{Small}
 use Rattle.epistemic.proofs.WordMain.{WSame, program, Answer, theorem-words}
-use Rattle.epistemic.proofs.Words.{mask-in, mask-out, meets→Any, Any→meets}
+use Rattle.epistemic.proofs.Words.{meets→Any, Any→meets}
 use Rattle.epistemic.specs.Positive.{All, Any, None}
 use Rattle.epistemic.specs.Transform.{Tagged, Stable}
 use Rattle.program.specs.Clauses.{Clause, Below}
-use Rattle.sets.proofs.Digits.{inside-bits, bits-ext, set-word, bit-ext, inside→⊑, ⊑→inside, bit-small}
+use Rattle.sets.proofs.Digits.{inside-bits, bits-ext, set-word, inside→⊑, ⊑→inside, bit-small}
 use Rattle.sets.proofs.Lists.{below-in, in-below, in-sift, out-sift}
-use Rattle.sets.proofs.Tests.{both-true, and-is-true, T?, T-ext}
+use Rattle.sets.proofs.Masks.{mask-sift}
+use Rattle.sets.proofs.Tests.{both-true, and-is-true, T?}
 use Rattle.sets.specs.Lists.{sift, below, every, _∈_, Each}
 use Rattle.sets.specs.Words.{mask, Set, _⊑_, bit, inside}
 use Rattle.stable.proofs.Checking.{model-cons}
@@ -36,8 +37,8 @@ unfolding unmask
 unmask-out m w x i = let s = out-sift (bit w) (below m) x i in (in-below m x (s .0), s .1)
 
 pub mask-unmask : (m w : ℕ) → w < 2 ^ m → mask (unmask m w) ≡ w
-mask-unmask m w h = bit-ext (mask (unmask m w)) w (λ i. T-ext (bit (mask (unmask m w)) i) (bit w i)
-    (λ t. unmask-out m w i (mask-out (unmask m w) i t) .1) (λ t. mask-in (unmask m w) i (unmask-in m w i (bit-small w m i h t) t)))
+unfolding unmask
+mask-unmask m w h = mask-sift m w (bit w) h (λ i l. refl)
 
 unfoldable pub taggedOf : ℕ → ℕ → Clause → Tagged
 unfolding unmask

@@ -14,10 +14,10 @@ use lib.Pow.{shl-shr}
 use Rattle.epistemic.proofs.Decisions.{Atom-discrete}
 use Rattle.epistemic.proofs.Masks.{unmask, unmask-in, unmask-out}
 use Rattle.epistemic.proofs.Naming.{place, place-here, place-there, stands}
-use Rattle.epistemic.proofs.Words.{mask-in, mask-out}
 use Rattle.epistemic.specs.Transform.{Tagged, Atom, lit, know, stand, noNaf}
 use Rattle.sets.proofs.Digits.{bit-small, bit-shr, bit-first, bit-suc, bit-or, bit-ext}
 use Rattle.sets.proofs.Lists.{in-++, in-++-l, in-++-r, in-map, map-in}
+use Rattle.sets.proofs.Masks.{mask-in, mask-out}
 use Rattle.sets.proofs.Tests.{T-or, T-or-l, T-or-r, T-ext}
 use Rattle.sets.specs.Lists.{_∈_}
 use Rattle.sets.specs.Words.{mask, bit}

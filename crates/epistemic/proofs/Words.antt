@@ -12,21 +12,11 @@ use Rattle.epistemic.proofs.Stages.{holds→All, All→holds, touches, 
 use Rattle.epistemic.specs.Positive.{yes?, Any, Rule, empty, holds, add, choices, stage}
 use Rattle.sets.proofs.Digits.{inside→⊑, ⊑→inside, bit-and, bit-or, bit-pow, bit-zero, bit-ext}
 use Rattle.sets.proofs.Lists.{in-map, map-in}
+use Rattle.sets.proofs.Masks.{mask-in, mask-out}
 use Rattle.sets.proofs.Tests.{T?, T-and, T-and-l, T-and-r, T-or, T-or-l, T-or-r, T-ext}
 use Rattle.sets.specs.Lists.{_∈_}
 use Rattle.sets.specs.Words.{mask, put, bit, inside, Set}
 use mathlib.Core.List.{flatMap}
-
-pub mask-out : (l : List ℕ) (i : ℕ) → T (bit (mask l) i) → i ∈ l
-unfolding mask
-mask-out [] i t = subst T (bit-zero i) t
-mask-out (x ∷ l) i t = ⊎-elim (λ p. inl (eqb→eq i x (subst T (bit-pow x i) p))) (λ p. inr (mask-out l i p)) (T-or (bit (2 ^ x) i) (bit (mask l) i) (subst T (bit-or (2 ^ x) (mask l) i) t))
-
-pub mask-in : (l : List ℕ) (i : ℕ) → i ∈ l → T (bit (mask l) i)
-unfolding mask
-mask-in [] i m = absurd m
-mask-in (x ∷ l) i (inl e) = subst T (sym (bit-or (2 ^ x) (mask l) i)) (T-or-l (bit (2 ^ x) i) (bit (mask l) i) (subst T (sym (bit-pow x i)) (subst (λ z. T (eqb i z)) e (eqb-refl i))))
-mask-in (x ∷ l) i (inr m) = subst T (sym (bit-or (2 ^ x) (mask l) i)) (T-or-r (bit (2 ^ x) i) (bit (mask l) i) (mask-in l i m))
 
 pub inside-mask : (w : ℕ) (l : List ℕ) → inside (mask l) w ≡ holds (bit w) l
 inside-mask w l = T-ext (inside (mask l) w) (holds (bit w) l)

@@ -22,9 +22,10 @@ use Rattle.semantics.specs.Interpretations.{reduct, isModel, violates, smaller,
 use Rattle.stable.proofs.Readings.{apart-none}
 use Rattle.stable.proofs.Checking.{model-some}
 use Rattle.leaf.specs.Leaf.{rulesOut, smallerBetween}
+use Rattle.leaf.proofs.Mentions.{ruling}
 
 -- ---- words as sets
-inside-trans : (a b c : ℕ) → Inside a b → Inside b c → Inside a c
+pub inside-trans : (a b c : ℕ) → Inside a b → Inside b c → Inside a c
 inside-trans a b c p q = inside-bits a c .1 (λ i t. inside-bits b c .0 q i (inside-bits a b .0 p i t))
 
 apart-within : (a b c : ℕ) → Apart a c → Inside b c → Apart a b
@@ -42,13 +43,12 @@ module _ (R t : ℕ) (h : Highest R t) (J : ℕ) where
 -- ---- a clause that is violated by all between
 module _ (P : List Clause) (I : ℕ) where
   violated : (J R K : ℕ) (c : Clause) → Between J R K → rulesOut I J (bitOr J R) c ≡ true → violates I K c ≡ true
-  unfolding rulesOut violates
+  unfolding violates
   violated J R K c b h =
-      let p = both-true (inside (c .body) J && apart (c .naf) I) (apart (c .head) (bitOr J R)) h in
-      let q = both-true (inside (c .body) J) (apart (c .naf) I) (p .0) in
+      let u = ruling I J (bitOr J R) c .0 h in
       and-is-true _ _
-      (and-is-true _ _ (eq-eqb _ _ (inside-trans (c .body) J K (eqb-true _ _ (q .0)) (inside-bits J K .1 (b .holds)))) (q .1))
-      (eq-eqb _ _ (apart-within (c .head) K (bitOr J R) (eqb-true _ _ (p .1)) (inside-bits K (bitOr J R) .1 (b .within))))
+      (and-is-true _ _ (eq-eqb _ _ (inside-trans (c .body) J K (u .0) (inside-bits J K .1 (b .holds)))) (eq-eqb _ _ (u .1)))
+      (eq-eqb _ _ (apart-within (c .head) K (bitOr J R) (u .2) (inside-bits K (bitOr J R) .1 (b .within))))
 
   cut : (J R K : ℕ) → anyOf (rulesOut I J (bitOr J R)) P ≡ true → Between J R K → isModel (reduct P I) K ≡ false
   cut J R K h b =

@@ -1,14 +1,16 @@
--- Tests of several words as one. Assumes nothing.
-use mathlib.Core.Path.{_≡_, sym, _∙_}
+-- Tests of several words as one, and the place of a highest bit. Assumes nothing.
+use mathlib.Core.Path.{_≡_, sym, _∙_, subst}
 use mathlib.Core.Bool.{_&&_}
 use mathlib.Core.Logic.{⊎-elim}
-use Prim.Native.Nat.{ℕ, zero, suc, _-_}
+use Prim.Native.Nat.{ℕ, zero, suc, _-_, _^_, _<_}
 use native.Mathlib.Omega.{arith}
 use lib.Dec.{eqb, eqb·suc-zero}
+use lib.Count.{leadingZeros}
 use lib.Bits.{bitAnd, bitOr, and-le-l, and-le-r, or-zero-l, or-add-and}
 use borrow.Author.Tests.{eqb-true, eqb-false, eq-eqb, ne-eqb}
-use Rattle.sets.specs.Words.{inside}
+use Rattle.sets.specs.Words.{inside, Highest}
 use Rattle.sets.proofs.Tests.{dec}
+use Rattle.sets.proofs.Highest.{one-shl, highest-is}
 use Rattle.program.specs.Clauses.{clauseOf}
 use Rattle.leaf.specs.Leaf.{rulesOut}
 
@@ -29,3 +31,7 @@ out-zero a w = ⊎-elim
 pub ruled-out : (h b n by w reach : ℕ) → eqb (bitOr (bitOr (b - bitAnd b w) (bitAnd n by)) (bitAnd h reach)) 0 ≡ rulesOut by w reach (clauseOf h b n)
 unfolding rulesOut
 ruled-out h b n by w reach = rw (or-zero (bitOr (b - bitAnd b w) (bitAnd n by)) (bitAnd h reach), or-zero (b - bitAnd b w) (bitAnd n by), out-zero b w)
+
+-- ---- the place of the highest bit of a word that has one
+pub highest-place : (x : ℕ) → 0 < x → x < 2 ^ 32 → Highest x (2 ^ (31 - leadingZeros 32 x))
+highest-place x some fits = subst (Highest x) (one-shl 32 (31 - leadingZeros 32 x) (omega arith)) (highest-is 32 x some fits)

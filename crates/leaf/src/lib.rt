@@ -1,14 +1,16 @@
 // The test of one word that satisfies its reduct, over clauses that lie in one array.
 ghost use mathlib.Core.Path.{_≡_};
 ghost use mathlib.Core.Bool.{true};
-ghost use Prim.Native.Nat.{_≤_, _<_};
-ghost use lib.Bits.{bitOr};
+ghost use Prim.Native.Nat.{_^_, _≤_, _<_};
 ghost use Rattle.sets.specs.Lists.{anyOf, tabulate};
-ghost use Rattle.sets.specs.Words.{Inside, Highest};
+ghost use Rattle.sets.specs.Words.{Highest};
+ghost use Rattle.literals.specs.Literals.{members};
 ghost use Rattle.program.specs.Clauses.{clauseOf};
 ghost use Rattle.semantics.specs.Interpretations.{reduct, isModel, isStable};
 ghost use Rattle.leaf.specs.Packed.{packedAt, Packs};
-ghost use Rattle.leaf.specs.Leaf.{rulesOut, smallerBetween};
+ghost use Rattle.columns.specs.Columns.{Columns};
+ghost use Rattle.columns.specs.Play.{InPlay};
+ghost use Rattle.leaf.specs.Leaf.{rulesOut, smallerBetween, Handed};
 
 // ---- the clauses in one array, which a recursion hands down as one reference
 // The heads from place 0 on, the bodies, the not-parts, and how many words that are.
@@ -44,55 +46,76 @@ pub fn rules_out(head: u32, body: u32, naf: u32, by: u32, w: u32, reach: u32) ->
     ((body - (body & w)) | (naf & by) | (head & reach)) == 0
 }
 
-// Whether that is so of some clause.
-fn some_rules_out(table: &[u32; WORDS], count: usize, by: u32, w: u32, reach: u32) -> bool
-    requires { ⌜ count ≤ 64 ⌝ }
-    ensures { λ r. ⌜ r ≡ anyOf (rulesOut by w reach) (tabulate (packedAt (now (table .entry))) count) ⌝ }
+// Whether that is so of some row of a set: trailing zeros step from row to row.
+pub fn some_rules_out(table: &[u32; WORDS], rows: u64, by: u32, w: u32, reach: u32) -> bool
+    ensures { λ r. ⌜ r ≡ anyOf (λ i. rulesOut by w reach (packedAt (now (table .entry)) i)) (members rows) ⌝ }
 {
-    let mut i: usize = 0;
-    while i < count {
+    let mut left = rows;
+    while left != 0 {
+        let i = literals::lowest_place(left);
         if rules_out(table[i], table[BODIES + i], table[NAFS + i], by, w, reach) {
             return true;
         }
-        i += 1;
+        left = left & (left - 1);
     }
     false
 }
 
 // ---- the leaf test
-// The highest bit of a word that has one.
+// The highest literal of a word that has one.
 fn highest(x: u32) -> u32
     requires { ⌜ 0 < x ⌝ }
-    ensures { λ r. ⌜ Highest x r ⌝ }
+    ensures { λ r. ⌜ Highest x (2 ^ r) ⌝ }
 {
-    1 << (31 - u32::leading_zeros(x))
+    31 - u32::leading_zeros(x)
 }
 
 // Whether a proper subset of `by` satisfies the reduct by it, among those that hold `held` and of the rest only bits of `undecided`.
 // The bits of `undecided` are decided from the highest, out before in; a branch is left where a clause is violated by all below it.
-fn has_smaller(table: &[u32; WORDS], count: usize, by: u32, held: u32, undecided: u32) -> bool
-    requires { ⌜ (count ≤ 64) × Inside (bitOr held undecided) by ⌝ }
+// Only a row that mentions the literal just decided can be one: `asked` has those, and at first all rows in play.
+fn has_smaller(
+    table: &[u32; WORDS],
+    columns: &[u64; columns::WORDS],
+    count: usize,
+    rows: u64,
+    asked: u64,
+    by: u32,
+    held: u32,
+    undecided: u32,
+) -> bool
+    requires { ⌜ Columns (packedAt (now table)) count (now columns) ⌝ }
+    requires { ⌜ Handed (packedAt (now table)) count by held undecided rows asked ⌝ }
     ensures { λ r. ⌜ r ≡ smallerBetween (tabulate (packedAt (now (table .entry))) count) by held undecided ⌝ }
 {
-    if some_rules_out(table, count, by, held, held | undecided) {
+    if some_rules_out(table, asked, by, held, held | undecided) {
         return false;
     }
     if undecided == 0 {
         return held != by;
     }
-    let top = highest(undecided);
+    let literal = highest(undecided);
+    let top = 1 << literal;
     let rest = undecided - top;
-    if has_smaller(table, count, by, held, rest) {
+    let mentioned = columns::mentions(columns, literal as usize) & rows;
+    if has_smaller(table, columns, count, rows, mentioned, by, held, rest) {
         return true;
     }
-    has_smaller(table, count, by, held | top, rest)
+    has_smaller(table, columns, count, rows, mentioned, by, held | top, rest)
 }
 
-// Whether a word that satisfies its reduct is p-stable: no smaller subset satisfies the reduct.
-pub fn leaf_stable(table: &[u32; WORDS], count: usize, w: u32) -> bool
-    requires { ⌜ count ≤ 64 ⌝ }
+// Whether a word that satisfies its reduct is p-stable: no smaller subset satisfies the reduct. `rows` are those in play at it.
+pub fn leaf_stable(
+    table: &[u32; WORDS],
+    columns: &[u64; columns::WORDS],
+    count: usize,
+    rows: u64,
+    w: u32,
+) -> bool
+    requires { ⌜ (count ≤ 64) × (w < 2 ^ 24) ⌝ }
+    requires { ⌜ Columns (packedAt (now table)) count (now columns) ⌝ }
+    requires { ⌜ InPlay (packedAt (now table)) count w w rows ⌝ }
     requires { ⌜ isModel (reduct (tabulate (packedAt (now table)) count) w) w ≡ true ⌝ }
     ensures { λ r. ⌜ r ≡ isStable (tabulate (packedAt (now (table .entry))) count) w ⌝ }
 {
-    !has_smaller(table, count, w, 0, w)
+    !has_smaller(table, columns, count, rows, rows, w, 0, w)
 }

@@ -14,7 +14,7 @@ use native.Mathlib.Omega.{arith}
 use Rattle.sets.proofs.Digits.{bit-first, bit-suc, bit-or, bit-ext}
 use Rattle.sets.specs.Lists.{_∈_, Each, Rising}
 use Rattle.sets.specs.Words.{bit, put}
-use Rattle.literals.specs.Literals.{here, bitsFrom, literals, low}
+use Rattle.literals.specs.Literals.{here, bitsFrom, literals, low, Lowest}
 
 -- ---- members
 
@@ -127,6 +127,9 @@ trailing-lt (suc k) s h b = go (s % 2) refl (λ q. trailing-lt k (s / 2) q (half
 
 pub lowest-small : (s t : ℕ) → (s ≡ 0 → ⊥) → s < 2 ^ 64 → t ≡ trailingZeros 64 s → t < 64
 lowest-small s t n b e = omega (arith, trailing-lt 64 s (omega (arith, n)) b)
+
+pub lowest-is : (s t : ℕ) → (s ≡ 0 → ⊥) → s < 2 ^ 64 → t ≡ trailingZeros 64 s → Lowest s t
+lowest-is s t n b e = record { fits = b; place = e; small = lowest-small s t n b e }
 
 bits-none : (k p : ℕ) → bitsFrom k p 0 ≡ []
 unfolding bitsFrom

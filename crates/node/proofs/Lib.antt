@@ -1,3 +1,5 @@
 -- What is proved of the test of a node.
 pub mod Words
-pub mod Passing
+pub mod Asking
+pub mod Descending
+pub mod ByColumns

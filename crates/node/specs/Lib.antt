@@ -1,2 +1,3 @@
--- What the test of a node is handed, and what it gathers of a clause; the laws stand in proofs/.
+-- What the test of a node is handed, and the test by columns; the laws stand in proofs/.
 pub mod Node
+pub mod ByColumns

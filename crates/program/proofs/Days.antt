@@ -1,20 +1,18 @@
 -- The rows of a day, gathered as a set; the table of just those has the clauses of the day. Assumes nothing.
 use mathlib.Core.Path.{_≡_, refl, sym, ap, _∙_, subst}
-use mathlib.Core.Bool.{Bool, true, false, not, _&&_, _||_, and-false, or-false, or-true}
-use mathlib.Core.Logic.{_↔_, _⊎_, inl, inr}
+use mathlib.Core.Bool.{Bool, true, _&&_}
+use mathlib.Core.Logic.{_↔_}
 use mathlib.Core.List.{List, [], _∷_, map}
-use Prim.Native.Nat.{ℕ, _+_, _*_, _%_, _^_, _≤_, _<_}
+use Prim.Native.Nat.{ℕ, _≤_, _<_}
 use native.Mathlib.Omega.{arith}
-use lib.Bits.{bitOr}
-use lib.Dec.{eqb, leb, ltb}
+use lib.Dec.{leb}
 use lib.ListN.{length, getD}
-use borrow.Author.Tests.{ltb-true, ltb-false, lt-ltb, le-ltb, eqb-true, eqb-false, leb-true, le-leb}
+use borrow.Author.Tests.{lt-ltb, leb-true, le-leb}
 use Rattle.sets.specs.Lists.{_∈_, sift}
 use Rattle.sets.specs.Words.{bit}
-use Rattle.sets.proofs.Tests.{dec, via-true, via-false, both-true, and-is-true}
+use Rattle.sets.proofs.Tests.{both-true, and-is-true}
 use Rattle.sets.proofs.Lists.{in-map, map-in, sift-in, sift-out, length-tabulate, getD-tabulate}
-use Rattle.sets.proofs.Digits.{bit-zero, bit-or, bit-pow}
-use Rattle.sets.proofs.Highest.{one-shl}
+use Rattle.sets.proofs.Gathering.{Gathering, gather-done}
 use Rattle.program.specs.declared.Program.{Program}
 use Rattle.program.specs.Clauses.{Row, rowAt, rows, standing, noRow}
 use Rattle.program.specs.Days.{isOfDay, ofDay, clauses, RowsOfDay, OfDay}
@@ -23,44 +21,9 @@ use Rattle.program.specs.Valid.{valid}
 use Rattle.program.proofs.Validity.{valid-clauses}
 use Rattle.program.proofs.Chosen.{chosen-by, only-rows, only-valid, standing-rows}
 
--- ---- the loop that gathers them
--- one number more
-below-more : (i k : ℕ) → ltb i (k + 1) ≡ (ltb i k || eqb i k)
-below-more i k = go (dec (ltb i k)) (dec (eqb i k))
-  where
-    go : (ltb i k ≡ true) ⊎ (ltb i k ≡ false) → (eqb i k ≡ true) ⊎ (eqb i k ≡ false) → ltb i (k + 1) ≡ (ltb i k || eqb i k)
-    go (inl e) f = rw e (lt-ltb i (k + 1) (omega (arith, ltb-true i k e)))
-    go (inr e) (inl f) = rw (e, f) (lt-ltb i (k + 1) (omega (arith, eqb-true i k f)))
-    go (inr e) (inr f) = rw (e, f) (le-ltb i (k + 1) (omega (arith, ltb-false i k e, eqb-false i k f)))
-
-module _ (p : Program) (d : ℕ) where
-  -- below k the rows of the day are gathered
-  pub record Gathering (k w : ℕ) : Type 0 where
-    pub within : k ≤ 64
-    pub bits : (i : ℕ) → bit w i ≡ ltb i k && ofDay p d (rowAt p i)
-
-  pub gather-start : Gathering 0 0
-  gather-start = record { within = omega arith; bits = λ i. bit-zero i ∙ sym (ap (λ b. b && ofDay p d (rowAt p i)) (le-ltb i 0 (omega arith))) }
-
-  pub gather-skip : (k w : ℕ) {r : Bool} → Gathering k w → k < 64 → r ≡ ofDay p d (rowAt p k) → not r ≡ true → Gathering (k + 1) w
-  gather-skip k w s h e f = record { within = omega arith; bits = λ i. s .bits i ∙ sym (rw (below-more i k) (go i (ltb i k) (dec (eqb i k)))) }
-    where
-      go : (i : ℕ) (b : Bool) → (eqb i k ≡ true) ⊎ (eqb i k ≡ false) → (b || eqb i k) && ofDay p d (rowAt p i) ≡ b && ofDay p d (rowAt p i)
-      go i b (inl q) = let z : ofDay p d (rowAt p i) ≡ false = ap (λ j. ofDay p d (rowAt p j)) (eqb-true i k q) ∙ via-false e f in rw (z, and-false, and-false)
-      go i b (inr q) = rw (q, or-false)
-
-  pub gather-one : (k w : ℕ) {r : Bool} → Gathering k w → k < 64 → r ≡ ofDay p d (rowAt p k) → not r ≡ false → Gathering (k + 1) (bitOr w (1 * 2 ^ k % 2 ^ 64))
-  gather-one k w s h e f = record {
-    within = omega arith;
-    bits = λ i. ap (λ x. bit (bitOr w x) i) (one-shl 64 k h) ∙ bit-or w (2 ^ k) i ∙ rw (bit-pow k i, s .bits i, below-more i k) (go i (ltb i k) (dec (eqb i k)));
-  }
-    where
-      go : (i : ℕ) (b : Bool) → (eqb i k ≡ true) ⊎ (eqb i k ≡ false) → ((b && ofDay p d (rowAt p i)) || eqb i k) ≡ (b || eqb i k) && ofDay p d (rowAt p i)
-      go i b (inl q) = let z : ofDay p d (rowAt p i) ≡ true = ap (λ j. ofDay p d (rowAt p j)) (eqb-true i k q) ∙ via-true e f in rw (z, q, or-true, or-true)
-      go i b (inr q) = rw (q, or-false, or-false)
-
-  pub gather-done : (k w : ℕ) → Gathering k w → 64 ≤ k → RowsOfDay p d w
-  gather-done k w s h = let e : k ≡ 64 = omega (arith, s .within) in record { exactly = λ i. s .bits i ∙ ap (λ n. ltb i n && ofDay p d (rowAt p i)) e }
+-- ---- all places are looked at
+pub day-gathered : (p : Program) (d k w : ℕ) → Gathering (λ i. ofDay p d (rowAt p i)) 64 k w → 64 ≤ k → RowsOfDay p d w
+day-gathered p d k w s h = record { exactly = gather-done (λ i. ofDay p d (rowAt p i)) 64 k w s h }
 
 -- ---- the table of them
 pub length-rows : (p : Program) → length (rows p) ≡ p .«clause_count»

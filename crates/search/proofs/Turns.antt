@@ -13,9 +13,10 @@ use Rattle.tree.specs.Answer.{answer, Ends}
 use Rattle.semantics.specs.Interpretations.{isStable}
 use Rattle.seek.specs.Seek.{Sought, Resumes, noLeaf, spent, fromWord}
 use Rattle.tree.proofs.Machine.{state, on, runs, runs-answer}
-use Rattle.seek.proofs.Seeking.{All, all-map, nodes-between, fromWord-all, ordered-nodes, ordered-fromWord, fromWord-fromWord, all-from}
+use Rattle.seek.proofs.Seeking.{All, all-map, all-fromWord, nodes-between, fromWord-all, ordered-nodes, ordered-fromWord, fromWord-fromWord, all-from}
 use Rattle.seek.proofs.Seeking.{runs-none, runs-spent, runs-full, runs-found, sought-holds}
-use Rattle.seek.proofs.Visits.{small-words, placed-root, leaf-undecided, leaf-stable}
+use Rattle.seek.proofs.Handing.{placed-root}
+use Rattle.seek.proofs.Visits.{small-words, leaf-undecided, leaf-stable}
 
 -- the search has m models listed and v nodes visited, and goes on with the nodes from x on
 pub record Searching (D : Dead) (P : List Clause) (A n : ℕ) (l₀ : List ℕ) (x m v : ℕ) (l : List ℕ) : Type 0 where
@@ -39,12 +40,12 @@ module _ (D : Dead) (P : List Clause) (A n : ℕ) (l₀ : List ℕ) where
     lists = ap (λ s. s .list) (e ∙ runs-answer (isStableLeaf D P) A (tree D n) l₀);
   }
 
-  module _ (x m v : ℕ) (l : List ℕ) (g : Searching D P A n l₀ x m v l) (few : n ≤ 12) (r v′ : ℕ) (s : Sought (isStableLeaf D P) A x (tree D n) v r v′) where
+  module _ (x m v : ℕ) (l : List ℕ) (g : Searching D P A n l₀ x m v l) (few : n ≤ 12) (r v′ : ℕ) (s : Sought (isStableLeaf D P) A (fromWord x (tree D n)) v r v′) where
     ends : (b : SearchAnswer) {a : SearchAnswer} → runs (isStableLeaf D P) A (fromWord x (tree D n)) (on m v l) ≡ state b l → a ≡ b → Ends D P n A l₀ a l
     ends b e y = ended b l y (sym (sym (g .same) ∙ e))
 
     small : All (λ u. u < 2 ^ 24) (fromWord x (tree D n))
-    small = small-words D x (2 * n) 0 (placed-root n few)
+    small = all-fromWord _ x (tree D n) (small-words D (2 * n) 0 (placed-root n few))
 
     pub turn-none : {a : SearchAnswer} → r ≡ noLeaf → a ≡ answer Complete m v′ → Ends D P n A l₀ a l
     turn-none h = ends (answer Complete m v′) (runs-none (isStableLeaf D P) A m l (fromWord x (tree D n)) v small (sym (s .word) ∙ h) ∙ rw (← s .nodes))

@@ -9,7 +9,7 @@ use native.Mathlib.Numerals.{one-add}
 use lib.Pow.{shr-shr, field, mod-mod-pow}
 use native.Mathlib.Omega.{arith}
 use lib.Dec.{T, eqb, eqb→eq}
-use lib.Bits.{bitAnd, bitOr, and-step, or-step, and-comm, and-le-r}
+use lib.Bits.{bitAnd, bitOr, and-step, or-step, and-comm, and-le-r, and-mask}
 use borrow.Author.Tests.{eqb-true, eqb-false, eq-eqb, ne-eqb}
 use Rattle.sets.specs.Words.{Set, _⊑_, digit, bit, Inside, Apart, inside}
 use Rattle.sets.proofs.Tests.{dec, lt-or-ge, true-T, not-T-false, T-ext, T-and, T-and-l, T-and-r}
@@ -192,6 +192,13 @@ pub ⊑→inside : (a b : ℕ) → bit a ⊑ bit b → T (inside a b)
 pub bit-div : (w i : ℕ) → bit w i ≡ eqb (w / 2 ^ i % 2) 1
 unfolding bit
 bit-div w i = ap (λ x. eqb x 1) (digit-div i w)
+
+-- one bit, as a shift and a test give it
+pub bit-clear : (w i : ℕ) → bitAnd (w / 2 ^ i) 1 ≡ 0 → bit w i ≡ false
+bit-clear w i h = bit-div w i ∙ ne-eqb (w / 2 ^ i % 2) 1 (λ e. omega (arith, and-mask (w / 2 ^ i) 1))
+
+pub bit-set : (w i : ℕ) → (bitAnd (w / 2 ^ i) 1 ≡ 0 → ⊥) → bit w i ≡ true
+bit-set w i h = bit-div w i ∙ eq-eqb (w / 2 ^ i % 2) 1 (omega (arith, h, and-mask (w / 2 ^ i) 1))
 
 pub bit-first : (w : ℕ) → bit w zero ≡ eqb (w % 2) 1
 unfolding bit digit

@@ -7,3 +7,5 @@ pub mod Digits
 pub mod Subsets
 pub mod Branches
 pub mod Highest
+pub mod Gathering
+pub mod Masks

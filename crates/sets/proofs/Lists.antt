@@ -121,6 +121,12 @@ module _ {A : Type 0} (p : A → Bool) where
   some-none [] f = refl
   some-none (y ∷ l) f = rw (f y (inl refl)) (some-none l (λ x m. f x (inr m)))
 
+  -- a test that says the same of every member
+  pub some-same : (q : A → Bool) (l : List A) → Each (λ x. p x ≡ q x) l → anyOf p l ≡ anyOf q l
+  unfolding anyOf
+  some-same q [] f = refl
+  some-same q (y ∷ l) f = rw (f y (inl refl), some-same q l (λ x m. f x (inr m)))
+
   -- every member passes where none fails
   pub every-some : (l : List A) → every p l ≡ not (anyOf (λ x. not (p x)) l)
   unfolding every anyOf

@@ -7,9 +7,10 @@ use mathlib.Core.List.{List, [], _∷_, map}
 use mathlib.Core.Logic.{_⊎_, inl, inr}
 use mathlib.Core.Path.{_≡_, refl, sym, ap, subst}
 use Rattle.epistemic.proofs.WordMain.{WSame, WMinimal, wsat, wmodel}
-use Rattle.epistemic.proofs.Words.{mask-in, mask-out, wstage}
+use Rattle.epistemic.proofs.Words.{wstage}
 use Rattle.epistemic.specs.Positive.{Rule}
 use Rattle.sets.proofs.Lists.{in-sift, out-sift, in-some, some-in}
+use Rattle.sets.proofs.Masks.{mask-in, mask-out}
 use Rattle.sets.proofs.Tests.{T-and-l, T?, T-and, T-and-r, T-true, true-T}
 use Rattle.sets.specs.Lists.{_∈_, Some, sift, anyOf, Each}
 use Rattle.sets.specs.Words.{inside, mask}

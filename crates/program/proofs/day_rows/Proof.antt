@@ -1,17 +1,20 @@
 -- `program::day_rows` meets its contract: below k the rows of the day are gathered. Assumes nothing.
 use borrow.Author.Needs.{needs}
 use Prim.Native.Nat.{_-_}
-use Rattle.program.proofs.Days.{Gathering, gather-start, gather-skip, gather-one, gather-done}
+use Rattle.sets.proofs.Gathering.{Gathering, gather-start, gather-skip, gather-one}
+use Rattle.program.specs.Clauses.{rowAt}
+use Rattle.program.specs.Days.{ofDay}
+use Rattle.program.proofs.Days.{day-gathered}
 use Rattle.program.proofs.day_rows.Statement.{statement}
 use Rattle.program.proofs.day_rows.Tie as tie
 
 abbrev Inv-loop : tie.InvT-loop
-Inv-loop day p rows₀ k₀ rows k = Gathering p day k rows
+Inv-loop day p rows₀ k₀ rows k = Gathering (λ i. ofDay p day (rowAt p i)) 64 k rows
 
 abbrev μ-loop : tie.MeasureT-loop
 μ-loop day p rows₀ k₀ rows k = 64 - k
 
-ruleset rules = (gather-start, gather-skip, gather-one, gather-done, needs)
+ruleset rules = (gather-start, gather-skip, gather-one, day-gathered, needs)
 
 loop-again : tie.Need-loop-again Inv-loop μ-loop
 loop-again c = search rules

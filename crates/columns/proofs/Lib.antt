@@ -1,0 +1,4 @@
+-- The laws of columns.
+pub mod Filling
+pub mod Making
+pub mod Again
