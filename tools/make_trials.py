@@ -18,6 +18,8 @@ In crates/trials/data:
   holdings    a book with a clause as its last line, behind the equals sign the clause's three words and two days, a day, 0 where no equal clause stands before it and 1 where one does,
               the bytes before that line, number of models, nodes and models without the clause on that day, and nodes and models with it;
               or a book and a clause that is refused: the refusal, all bytes, and the book's nodes and models twice
+  constraints a book with a constraint as its last line, and the numbers of `holdings`; that the models with it are those without it that satisfy it, on a day that it is of,
+              and that none lies within another, is asserted here of clingo's
 
 In crates/edges/data:
 
@@ -391,13 +393,22 @@ def summaries():
 
 # ---- candidates and what the check finds of them
 
+def clause_words(values):
+    return [sum(1 << b for b in literals) for literals in parts(values)]
+
+
+def satisfies(w, values):
+    """Whether a word satisfies a clause: where its body lies in the word and its not-part misses the word, its head meets it."""
+    head, body, naf = clause_words(values)
+    return body & w != body or bool(naf & w) or bool(head & w)
+
+
 def found(clauses, w):
     """What the check finds, by trying every proper subset of w, by size and not by number: 0, or 1 with the lowest violated clause, or 2 with the least smaller subset."""
-    words = [[sum(1 << b for b in literals) for literals in parts(c)] for c in clauses]
-    violated = [k for k, (head, body, naf) in enumerate(words) if body & w == body and not naf & w and not head & w]
+    violated = [k for k, c in enumerate(clauses) if not satisfies(w, c)]
     if violated:
         return 1, min(violated)
-    kept = [(head, body) for head, body, naf in words if not naf & w]
+    kept = [(head, body) for head, body, naf in map(clause_words, clauses) if not naf & w]
     bits = [1 << b for b in range(24) if w >> b & 1]
     subsets = [sum(some) for size in range(len(bits)) for some in itertools.combinations(bits, size)]
     models = [j for j in subsets if all(body & j != body or head & j for head, body in kept)]
@@ -661,10 +672,6 @@ def days():
 
 # ---- clauses that are held and kept
 
-def clause_words(values):
-    return [sum(1 << b for b in literals) for literals in parts(values)]
-
-
 def weighed(n, clauses):
     """The number of nodes and the models of a book; None where the fixpoint would form too large a stage or has too large a W."""
     models = solve(clauses)
@@ -774,6 +781,16 @@ def held_books(rng, make, is_dated):
             yield made
 
 
+def of_kinds(family, books):
+    """Records of random books of several kinds, undated and dated."""
+    for label, make in (('dense', dense), ('disjunction', disjunctions), ('loop', loops), ('constraint', constraints), ('default', defaults)):
+        rng = random.Random(f'{SEED} {family} {label}')
+        for k, made in enumerate(itertools.islice(books(rng, make, False), HELD_BOOKS), 1):
+            yield (f'{label} {k}', *made)
+        for k, made in enumerate(itertools.islice(books(rng, make, True), HELD_DATED_BOOKS), 1):
+            yield (f'{label} {k}, dated', *made)
+
+
 def holdings():
     for label, names, clauses, words, numbers in HELD:
         yield label, text_of(names.split(), rows(clauses)), [int(x) for x in (words + ' ' + numbers).split()]
@@ -781,12 +798,83 @@ def holdings():
         yield (label, *not_held(names.split(), rows(clauses), *rest))
     yield ('the last place', *held(['a'], rows(' / '.join(['1'] * 63)), None, [2], (0, 0), 0))
     yield ('the last place, dated', *held(['a'], rows(' / '.join(['1'] * 63)), [(k, k + 1) for k in range(63)], [2], (20, 21), 20))
-    for label, make in (('dense', dense), ('disjunction', disjunctions), ('loop', loops), ('constraint', constraints), ('default', defaults)):
-        rng = random.Random(f'{SEED} holdings {label}')
-        for k, made in enumerate(itertools.islice(held_books(rng, make, False), HELD_BOOKS), 1):
-            yield (f'{label} {k}', *made)
-        for k, made in enumerate(itertools.islice(held_books(rng, make, True), HELD_DATED_BOOKS), 1):
-            yield (f'{label} {k}, dated', *made)
+    yield from of_kinds('holdings', held_books)
+
+
+# ---- constraints that are kept
+
+def constrained(names, clauses, spans, values, span, day):
+    """The text and the numbers of a constraint that is kept; None where one of the two books is too large."""
+    made = held(names, clauses, spans, values, span, day)
+    if made is not None:
+        numbers = made[1]
+        before, after = numbers[10:10 + numbers[8]], numbers[11 + numbers[8]:]
+        is_of_day = spans is None or span[0] <= day <= span[1]
+        assert after == [w for w in before if not is_of_day or satisfies(w, values)]
+        assert all(v & w != v for v, w in itertools.permutations(before, 2))
+    return made
+
+
+# the names line and the lines, of which the last is the constraint; the days given for it where the book is undated; a day. The models are clingo's
+CONSTRAINED = [
+    ('one of two', 'a b', '1 1 / 4 0', (0, 0), 0),
+    ('both of two', 'a b c', '1 1 0 / 4 0 1 / 0 4 1 / 0 0 4', (0, 0), 0),
+    ('none of two', 'a b', '1 1 / 4 4', (0, 0), 0),
+    ('by a not-part alone', 'a b', '1 1 / 16 0', (0, 0), 0),
+    ('by a body and a not-part', 'a b c', '1 1 0 / 0 0 3 / 4 0 16', (0, 0), 0),
+    ('by a contradiction', 'a b', '1 0 / 2 1 / 12 0', (0, 0), 0),
+    ('unless it is denied', 'a b', '1 0 / 2 1 / 36 0', (0, 0), 0),
+    ('a literal in the body and in the not-part', 'a', '1 / 20', (0, 0), 0),
+    ('what nothing says', 'a b', '1 0 / 0 4', (0, 0), 0),
+    ('what nothing says, asked for', 'a b', '1 0 / 0 16', (0, 0), 0),
+    ('one of two defaults', 'a b', '16 1 / 1 16 / 0 4', (0, 0), 0),
+    ('no model before', 'a', '17 / 4', (0, 0), 0),
+    ('an equal constraint', 'a b', '1 1 / 4 0 / 4 0', (0, 0), 0),
+    ('undated, its days passed over', 'a b', '1 1 / 4 0', (9, 10), 8),
+    ('undated, its days reversed', 'a b', '1 1 / 4 0', (10, 9), 65535),
+    ('dated, the day before', 'a b from to', '1 1 0 65535 / 4 0 9 10', None, 8),
+    ('dated, its first day', 'a b from to', '1 1 0 65535 / 4 0 9 10', None, 9),
+    ('dated, its last day', 'a b from to', '1 1 0 65535 / 4 0 9 10', None, 10),
+    ('dated, the day behind', 'a b from to', '1 1 0 65535 / 4 0 9 10', None, 11),
+    ('dated, on a day of no other clause', 'a b from to', '1 1 0 8 / 16 0 9 9', None, 9),
+    ('an equal constraint on other days', 'a b from to', '1 1 0 65535 / 4 0 0 9 / 4 0 10 10', None, 10),
+]
+
+
+def to_forbid(rng, n, models, violated):
+    """A constraint: any, or one that some model violates."""
+    if not violated:
+        return clause(n, [], some_of(rng, n, 0, 2), some_of(rng, n, 0, 2))
+    w = rng.choice(models)
+    inside, outside = [b for b in range(2 * n) if w >> b & 1], [b for b in range(2 * n) if not w >> b & 1]
+    return clause(n, [], rng.sample(inside, min(len(inside), rng.randint(0, 2))), rng.sample(outside, min(len(outside), rng.randint(0, 2))))
+
+
+def constrained_books(rng, make, is_dated):
+    """Random books of two models or more on the day, with a constraint that is taken; where it is not of the day some model violates it."""
+    while True:
+        n, clauses = make(rng)
+        clauses = [c for c in clauses if any(c)]
+        spans = spans_for(rng, len(clauses)) if is_dated else None
+        span = spans_for(rng, 1)[0] if is_dated else tuple(rng.choices(range(LAST_DAY + 1), k=2))
+        first, last = sorted(span)
+        day = rng.choice([*days_around([(first, last)], 0), first, (first + last) // 2, last])
+        models = solve(left_on(clauses, spans, day))
+        if models is None or not 2 <= len(models) <= MOST_LISTED:
+            continue
+        values = to_forbid(rng, n, models, is_dated and not span[0] <= day <= span[1] or rng.random() < 0.7)
+        made = constrained(names_for(rng, n), clauses, spans, values, span, day) if any(values) else None
+        if made is not None:
+            yield made
+
+
+def kept_constraints():
+    for label, names, lines, given, day in CONSTRAINED:
+        names, clauses, spans = without_days(names.split(), rows(lines))
+        *clauses, values = clauses
+        *before, span = spans or [given]
+        yield (label, *constrained(names, clauses, before if spans else None, values, span, day))
+    yield from of_kinds('constraints', constrained_books)
 
 
 # ---- texts that are refused, and texts at the edges that are taken
@@ -1216,6 +1304,7 @@ def main():
     save(TRIALS, 'nodes', [record(a, text_of(n, c), numbers) for a, n, c, numbers in nodes()])
     save(TRIALS, 'days', [record(a, t, numbers) for a, t, numbers in days()])
     save(TRIALS, 'holdings', [record(a, t, numbers) for a, t, numbers in holdings()])
+    save(TRIALS, 'constraints', [record(a, t, numbers) for a, t, numbers in kept_constraints()])
     save(EDGES, 'tables', [record(a, t, numbers) for a, t, *numbers in TABLES])
     with open(os.path.join(TRIALS, 'VERSION'), 'w') as out:
         out.write(f'seed {SEED}\n{version}\n')

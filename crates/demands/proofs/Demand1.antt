@@ -4,7 +4,6 @@ use mathlib.Core.Logic.{_↔_, _⊎_, inl, inr, ⊎-elim}
 use mathlib.Core.Bool.{Bool, true, false, cond}
 use mathlib.Core.List.{List, [], _∷_, _++_, map}
 use Prim.Native.Nat.{ℕ, zero, suc}
-use native.Mathlib.Omega.{arith}
 use lib.Dec.{ltb, leb}
 use lib.ListN.{length, take, replicate}
 use borrow.Author.Tests.{eq-eqb, ne-eqb}
@@ -20,7 +19,7 @@ use Rattle.program.specs.Held.{heldClause, released}
 use Rattle.program.specs.Valid.{heldValid, valid, Sized}
 use Rattle.program.proofs.Validity.{HeldParts, days-parts, days-fit, held-fits, held-nothing, held-used, held-unused, clause-exactly}
 use Rattle.program.specs.Refusals.{lowest, Applies, Lowest, ofOutcome}
-use Rattle.program.proofs.Lowest.{rises, none-lowest, lowest-is, one-lowest}
+use Rattle.program.proofs.Lowest.{rises, none-lowest, lowest-is, one-lowest, not-both}
 use Rattle.program.specs.declared.Verdict.{Verdict}
 use Rattle.program.specs.declared.Verdict.the-variants.{Accepted, Refused}
 use Rattle.text.specs.Refusals as reading
@@ -48,9 +47,6 @@ use Rattle.fixpoint.specs.Answer.{roomOf}
 use Rattle.fixpoint.specs.Answer as fixing
 use Rattle.demands.specs.Demand1.{Call, read, write, check, summarize, search, fixpoint, hold, keep, release}
 use Rattle.demands.specs.Demand1.{Lent, Told, told-back, told, Answers, numbersOf, ofWritten, ofChecked, MayHold, Given, Demand1}
-
-not-both : {A : Type 0} {v : Verdict} {n : ℕ} → v ≡ Accepted → v ≡ Refused n → A
-not-both a b = absurd (let z : _≡_ {A = ℕ} 0 1 = cc in omega arith)
 
 one-number : {v : Verdict} {n m : ℕ} → v ≡ Refused n → v ≡ Refused m → n ≡ m
 one-number a b = cc

@@ -7,12 +7,17 @@ use Prim.Native.Nat.{ℕ}
 use native.Mathlib.Omega.{arith}
 use lib.ListN.{length, take}
 use lib.Seq.{take-all}
-use Rattle.sets.specs.Lists.{Rising, Begins}
+use Rattle.sets.specs.Lists.{_∈_, Rising, Begins}
+use Rattle.sets.specs.Words.{_⊑_, bit}
 use Rattle.sets.proofs.Tests.{dec}
-use Rattle.sets.proofs.Rising.{begins-both, begins-same, begins-rising}
+use Rattle.sets.proofs.Rising.{begins-both, begins-same, begins-in, begins-rising}
+use Rattle.sets.proofs.Digits.{bits-ext}
 use Rattle.program.specs.declared.Program.{Program}
 use Rattle.program.specs.Days.{clauses}
 use Rattle.program.specs.Valid.{valid}
+use Rattle.semantics.specs.Definitions.{PStable}
+use Rattle.semantics.specs.Interpretations.{rulesOf}
+use Rattle.semantics.proofs.Within.{antichain}
 use Rattle.stable.proofs.Decides as decides
 use Rattle.program.specs.declared.Outcome.the-variants.{Complete, Refused}
 use Rattle.tree.specs.Answer.{listed as searchListed}
@@ -33,6 +38,14 @@ begins p d r e n = ap (λ (k : ℕ). take k (allModels p d)) n ∙ sym e
 
 rises : (p : Program) (d : ℕ) (r : Run) → listed p d r ≡ take (written p d r) (allModels p d) → length (listed p d r) ≡ written p d r → Rising (listed p d r)
 rises p d r e n = begins-rising (listed p d r) (allModels p d) (begins p d r e n) (every-model p d .rising)
+
+-- of two of these neither lies within the other
+parted : (p : Program) (d : ℕ) (r : Run) → listed p d r ≡ take (written p d r) (allModels p d) → length (listed p d r) ≡ written p d r
+    → (v w : ℕ) → v ∈ listed p d r → w ∈ listed p d r → bit v ⊑ bit w → v ≡ w
+parted p d r e n v w a b h = bits-ext v w h (antichain (rulesOf (clauses p d)) (bit v) (bit w) (stable v a) (stable w b) h)
+  where
+    stable : (x : ℕ) → x ∈ listed p d r → PStable (rulesOf (clauses p d)) (bit x)
+    stable x m = every-model p d .exactly x .0 (begins-in (listed p d r) (allModels p d) (begins p d r e n) x m) .1
 
 -- ---- a run by search
 module _ (p : Program) (d : ℕ) (A : ℕ) (l : List ℕ) where
@@ -59,6 +72,7 @@ module _ (p : Program) (d : ℕ) (A : ℕ) (l : List ℕ) where
     lowest = search-lowest;
     counted = searching.counted p d A l;
     rising = rises p d (searched A l) search-lowest (searching.counted p d A l);
+    none-within = parted p d (searched A l) search-lowest (searching.counted p d A l);
     complete-all = search-all;
     behind = searches.keeps-rest p d A l;
     places = searches.same-places p d A l;
@@ -110,6 +124,7 @@ module _ (p : Program) (d : ℕ) (l w v : List ℕ) where
     lowest = fix-lowest;
     counted = fix-counted;
     rising = rises p d (fixed l w v) fix-lowest fix-counted;
+    none-within = parted p d (fixed l w v) fix-lowest fix-counted;
     complete-all = fix-all;
     behind = fixing.leaves-rest (fixing.left p d l w v);
     places = fixing.leaves-length (fixing.left p d l w v);

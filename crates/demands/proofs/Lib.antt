@@ -1,4 +1,4 @@
--- The theorems of the three demands, and that a held clause is passed over.
+-- The theorems of the three demands, that a held clause is passed over, and what a constraint takes away.
 pub mod Outcomes
 pub mod Searching
 pub mod Fixing
@@ -6,3 +6,4 @@ pub mod Demand1
 pub mod Demand2
 pub mod Demand3
 pub mod PassedOver
+pub mod TakesAway

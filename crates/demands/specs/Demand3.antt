@@ -9,7 +9,7 @@ use mathlib.Core.List.{List, []}
 use Prim.Native.Nat.{ℕ, _*_, _^_, _≤_, _<_, min}
 use lib.ListN.{length, take, drop}
 use Rattle.sets.specs.Lists.{_∈_, Rising, Begins}
-use Rattle.sets.specs.Words.{bit}
+use Rattle.sets.specs.Words.{_⊑_, bit}
 use Rattle.program.specs.declared.Program.{Program}
 use Rattle.program.specs.Days.{clauses}
 use Rattle.program.specs.Valid.{valid}
@@ -130,6 +130,8 @@ pub record OneRun (p : Program) (d : ℕ) (r : Run) : Type 0 where
   pub lowest : listed p d r ≡ take (written p d r) (allModels p d)
   pub counted : length (listed p d r) ≡ written p d r
   pub rising : Rising (listed p d r)
+  -- document 02, U7: "no model in a list lies within another"
+  pub none-within : (v w : ℕ) → v ∈ listed p d r → w ∈ listed p d r → bit v ⊑ bit w → v ≡ w
   -- "complete says all"
   pub complete-all : outcome p d r ≡ Complete → listed p d r ≡ allModels p d
   -- "List places beyond those written keep their content.", and the list keeps its length

@@ -1,4 +1,4 @@
-// Prints the report of each book of docs/BOOKS.md and of the README, read from files, and what other words say of two of them.
+// Prints the report of each book of docs/BOOKS.md and of the README, read from files, and what other words say of some of them.
 ghost use Rattle.io.specs.Counts.{Counts};
 use commands::Command;
 use commands::MOST_BYTES;
@@ -58,6 +58,10 @@ fn june(day: u16, command: Command) {
     show_on(b"june", day, command);
 }
 
+fn waived(day: u16) {
+    show_on(b"waived", day, Command::Search(NODE_LIMIT, MOST_PLACES));
+}
+
 fn main() {
     // first: paid, and the price is due where it is paid
     // unsaid: the price is due where fell is denied, which nothing does
@@ -95,6 +99,8 @@ fn main() {
     either(Command::Hold(1, 0, 0, 0, 0));
     either(Command::Hold(0, 0, 0, 0, 0));
     either(Command::Keep(256, 4, 0, 0, 0));
+    // the constraint that it cannot be that it hung, kept: the book is witness
+    either(Command::Keep(0, 64, 0, 0, 0));
     // june: the price is due only from day 151 to day 180: the day before, the last day, and the day behind
     june(150, Command::Search(NODE_LIMIT, MOST_PLACES));
     june(180, Command::Search(NODE_LIMIT, MOST_PLACES));
@@ -104,6 +110,10 @@ fn main() {
     // the clause of the price with other days, and with days that are in no order
     june(0, Command::Keep(16, 1, 4, 212, 242));
     june(0, Command::Hold(16, 1, 4, 242, 212));
+    // waived: as june, and from day 160 to day 170 it cannot be that the price is due: the day before the constraint, its first day, and the day behind
+    waived(159);
+    waived(160);
+    waived(171);
     // early: a first day after its last: refused
     report(b"early");
 }

@@ -1,13 +1,14 @@
 -- What each way to leave one of the three calls says. Assumes nothing.
 use mathlib.Core.Path.{_≡_, refl, sym, ap, _∙_}
 use mathlib.Core.Bool.{Bool, true, false, cond, not, _&&_}
+use mathlib.Core.Logic.{⊎-elim}
 use mathlib.Core.List.{List, [], _∷_}
 use Prim.Native.Nat.{ℕ, _+_, _≤_, _<_}
 use native.Mathlib.Omega.{arith}
 use lib.Dec.{eqb, ltb}
 use lib.ListN.{set}
 use borrow.Author.Tests.{eq-eqb, ne-eqb, eqb-false, ltb-false}
-use Rattle.sets.proofs.Tests.{clash, via-true, via-false}
+use Rattle.sets.proofs.Tests.{clash, same?, via-true, via-false}
 use Rattle.sets.proofs.Lists.{Lacks, lacks-hit, lacks-none}
 use Rattle.program.specs.declared.HeldClause.{HeldClause}
 use Rattle.program.specs.declared.Program.{Program}
@@ -16,6 +17,7 @@ use Rattle.program.specs.Clauses.{Clause, clauseOf, Row, rowAt, rows, isEqualRo
 use Rattle.program.specs.Held.{heldRow, inPlace, nothingHeld, holding, released}
 use Rattle.program.specs.Refusals.{lowest}
 use Rattle.program.specs.Valid.{isClause, daysFit, valid}
+use Rattle.program.proofs.Lowest.{not-both}
 use Rattle.program.proofs.Validity.{valid-clauses, valid-held, held-fits, days-fit}
 use Rattle.hold.specs.declared.HoldStatus.the-variants as holds
 use Rattle.hold.specs.declared.ClearStatus.the-variants as clears
@@ -155,6 +157,10 @@ module _ (p : Program) (c : Clause) (f l : ℕ) where
   pub hold-refused : (holdRefusal p c f l ≡ 0 → ⊥) → holdOf p c f l ≡ answer (holds.Refused (holdRefusal p c f l)) p
   unfolding holdOf
   hold-refused d = rw (ne-eqb (holdRefusal p c f l) 0 d)
+
+  -- a clause that is taken is refused by no number
+  pub hold-zero : ofHold (holdOf p c f l .status) ≡ Accepted → holdRefusal p c f l ≡ 0
+  hold-zero t = ⊎-elim (λ z. z) (λ d. not-both t (ap (λ a. ofHold (a .status)) (hold-refused d))) (same? (holdRefusal p c f l) 0)
 
 -- the same as the code comes to it
 module _ (p : Program) (c : Clause) (f l n : ℕ) (e : n ≡ holdRefusal p c f l) where

@@ -1,8 +1,8 @@
 -- The rows of a day, gathered as a set; the table of just those has the clauses of the day. Assumes nothing.
-use mathlib.Core.Path.{_≡_, refl, sym, ap, _∙_, subst}
-use mathlib.Core.Bool.{Bool, true, _&&_}
+use mathlib.Core.Path.{_≡_, refl, sym, ap, ap₂, _∙_, subst}
+use mathlib.Core.Bool.{Bool, true, false, _&&_}
 use mathlib.Core.Logic.{_↔_}
-use mathlib.Core.List.{List, [], _∷_, map}
+use mathlib.Core.List.{List, [], _∷_, _++_, map, map-append, append-nil}
 use Prim.Native.Nat.{ℕ, _≤_, _<_}
 use native.Mathlib.Omega.{arith}
 use lib.Dec.{leb}
@@ -11,7 +11,7 @@ use borrow.Author.Tests.{lt-ltb, leb-true, le-leb}
 use Rattle.sets.specs.Lists.{_∈_, sift}
 use Rattle.sets.specs.Words.{bit}
 use Rattle.sets.proofs.Tests.{both-true, and-is-true}
-use Rattle.sets.proofs.Lists.{in-map, map-in, sift-in, sift-out, length-tabulate, getD-tabulate}
+use Rattle.sets.proofs.Lists.{in-map, map-in, sift-in, sift-out, sift-append, length-tabulate, getD-tabulate}
 use Rattle.sets.proofs.Gathering.{Gathering, gather-done}
 use Rattle.program.specs.declared.Program.{Program}
 use Rattle.program.specs.Clauses.{Row, rowAt, rows, standing, noRow}
@@ -61,7 +61,7 @@ all-pass t [] h = refl
 all-pass t (x ∷ l) h = rw (h x, all-pass t l h)
 
 -- the test of a row of a dated table
-in-days : (p : Program) (d : ℕ) → p .dated ≡ true → (r : Row) → (ofDay p d r ≡ true) ↔ ((r .first ≤ d) × (d ≤ r .last))
+pub in-days : (p : Program) (d : ℕ) → p .dated ≡ true → (r : Row) → (ofDay p d r ≡ true) ↔ ((r .first ≤ d) × (d ≤ r .last))
 unfolding isOfDay
 in-days p d e r = (
   λ t. let b = both-true (leb (r .first) d) (leb d (r .last)) (sym (rw e) ∙ t) in (leb-true _ _ (b .0), leb-true _ _ (b .1)),
@@ -81,3 +81,20 @@ of-day-exactly p d = record {
   );
   undated = λ e. ap (map (λ r. r .clause)) (all-pass (ofDay p d) (rows p) (λ r. rw e)) ∙ sym (standing-rows p);
 }
+
+-- ---- a row more
+module _ (p q : Program) (r : Row) (same : q .dated ≡ p .dated) (more : rows q ≡ rows p ++ (r ∷ [])) (d : ℕ) where
+  clauses-with : clauses q d ≡ clauses p d ++ map (λ (s : Row). s .clause) (sift (ofDay p d) (r ∷ []))
+  unfolding clauses
+  clauses-with =
+      ap₂ (λ (b : Bool) (R : List Row). map (λ (s : Row). s .clause) (sift (λ (s : Row). isOfDay b (s .first) (s .last) d) R)) same more
+      ∙ ap (map (λ (s : Row). s .clause)) (sift-append (ofDay p d) (rows p) (r ∷ []))
+      ∙ map-append (λ (s : Row). s .clause) (sift (ofDay p d) (rows p)) (sift (ofDay p d) (r ∷ []))
+
+  pub clauses-more : ofDay p d r ≡ true → clauses q d ≡ clauses p d ++ (r .clause ∷ [])
+  unfolding sift
+  clauses-more t = rw t at clauses-with
+
+  pub clauses-as-before : ofDay p d r ≡ false → clauses q d ≡ clauses p d
+  unfolding sift
+  clauses-as-before t = rw t at clauses-with ∙ append-nil (clauses p d)

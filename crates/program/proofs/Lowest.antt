@@ -8,6 +8,8 @@ use native.Mathlib.Omega.{arith}
 use lib.Dec.{ltb}
 use borrow.Author.Tests.{ltb-true}
 use Rattle.sets.proofs.Tests.{both-true, clash}
+use Rattle.program.specs.declared.Verdict.{Verdict}
+use Rattle.program.specs.declared.Verdict.the-variants.{Accepted, Refused}
 use Rattle.program.specs.Refusals.{lowest, Applies, Lowest}
 
 -- the numbers rise, and all lie above k
@@ -77,3 +79,7 @@ module _ (ts : List (ℕ × Bool)) (r : rises 0 ts ≡ true) where
 -- there is one lowest
 pub one-lowest : (ts : List (ℕ × Bool)) (n m : ℕ) → Lowest ts n → Lowest ts m → n ≡ m
 one-lowest ts n m a b = omega (arith, a .least m (b .applies), b .least n (a .applies))
+
+-- ---- no verdict is both
+pub not-both : {A : Type 0} {v : Verdict} {n : ℕ} → v ≡ Accepted → v ≡ Refused n → A
+not-both a b = absurd (let z : _≡_ {A = ℕ} 0 1 = cc in omega arith)

@@ -67,13 +67,18 @@ pub begins-same : (a b c : List ℕ) → Begins a c → Begins b c → length a 
 unfolding Begins
 begins-same a b c p q e = sym p ∙ ap (λ n. take n c) e ∙ q
 
--- a first part of a rising list rises
+-- what stands in a first part stands in the list
 take-in : (n : ℕ) (l : List ℕ) (x : ℕ) → x ∈ take n l → x ∈ l
 take-in zero l x m = absurd m
 take-in (suc n) [] x m = absurd m
 take-in (suc n) (y ∷ l) x (inl e) = inl e
 take-in (suc n) (y ∷ l) x (inr k) = inr (take-in n l x k)
 
+pub begins-in : (a b : List ℕ) → Begins a b → (x : ℕ) → x ∈ a → x ∈ b
+unfolding Begins
+begins-in a b h x m = take-in (length a) b x (subst (λ (l : List ℕ). x ∈ l) (sym h) m)
+
+-- a first part of a rising list rises
 take-rising : (n : ℕ) (l : List ℕ) → Rising l → Rising (take n l)
 unfolding Rising
 take-rising zero l r = tt

@@ -1,5 +1,4 @@
--- What is proved of the definitions.
-pub mod FourValues
+-- The definitions over words are those over sets of literals, and what the check answers is so.
 pub mod Readings
 pub mod Decides
 pub mod Checking

@@ -15,7 +15,7 @@ use Rattle.sets.proofs.Digits.{inside-bits, meets-bits, bit-zero}
 use Rattle.program.specs.Clauses.{Clause, clauseOf}
 use Rattle.semantics.specs.Definitions.{Rule, Satisfies, Model, Reduct, positive, _⊨_, _⊨not_}
 use Rattle.semantics.specs.Interpretations.{ruleOf, rulesOf, satisfies, reduct, isModel}
-use Rattle.stable.proofs.FourValues.{holds-member, not-absent}
+use Rattle.semantics.proofs.FourValues.{holds-member, not-absent}
 
 -- the word lies in w: each of its literals holds; it misses w: "not" of each holds; it meets w: some literal holds
 pub inside-holds : (a w : ℕ) → Inside a w ↔ ((L : ℕ) → T (bit a L) → bit w ⊨ L)

@@ -67,6 +67,19 @@ fn agrees_at(p: Program, day: u16, w: u32, stable: bool) -> bool {
     saying::agree(answers::CHECK, expected, found)
 }
 
+// Whether the check calls each of the words p-stable exactly where it is among those listed.
+pub fn agrees_on(p: Program, day: u16, words: &[u32], listed: &[u32]) -> bool {
+    let mut k: usize = 0;
+    while k < words.len() {
+        let w = words[k];
+        if !agrees_at(p, day, w, is_listed(listed, w)) {
+            return false;
+        }
+        k += 1;
+    }
+    true
+}
+
 // A p-stable model lies in no other, so one literal more or less makes it none.
 fn agrees_inside(p: Program, day: u16, words: &[u32]) -> bool {
     let m = words.len();

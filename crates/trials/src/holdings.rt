@@ -1,12 +1,16 @@
 // A clause is held on a book, against stored answers: every other call passes over it, it is let go, and it is kept as the last clause.
 use crate::START;
 use crate::asking;
+use crate::candidates;
 use crate::days;
 use crate::saying;
 use answers::Answer;
 use hold::ClearAnswer;
 use hold::HoldAnswer;
 use program::Program;
+
+// Where the models of the book stand among the numbers.
+const MODELS: usize = 10;
 
 fn wide(n: u32) -> u64 {
     n as u64
@@ -76,19 +80,19 @@ fn is_held(a: HoldAnswer, day: u16, found: u64, book: &[u8], stored: &[u32]) -> 
         )
 }
 
-// Whether it is kept, against what the whole text weighs, by the numbers from `at` on.
+// Whether it is kept, against what the whole text weighs, by the numbers from `at` on; before these stand the models of the book,
+// of which the check must call p-stable just those that stay.
 fn is_kept(p: Program, day: u16, found: u64, text: &[u8], numbers: &[u32], at: usize) -> bool {
-    if at < numbers.len() {
-        return clears(
-            answers::KEEP,
-            asking::keep(p),
-            day,
-            found,
-            text,
-            &numbers[at..],
-        );
+    if at < MODELS {
+        return saying::is_number(answers::RECORD, MODELS as u64, at as u64, 0);
     }
-    saying::is_number(answers::RECORD, 1, 0, at as u64)
+    if numbers.len() <= at {
+        return saying::is_number(answers::RECORD, 1, 0, at as u64);
+    }
+    let a = asking::keep(p);
+    let q = a.program;
+    clears(answers::KEEP, a, day, found, text, &numbers[at..])
+        && candidates::agrees_on(q, day, &numbers[MODELS..at], &numbers[at + 1..])
 }
 
 // The numbers are the three parts of the clause and its two days, a day to weigh on, what holding it finds,
@@ -107,7 +111,7 @@ pub fn agrees(text: &[u8], numbers: &[u32]) -> bool {
     if m < count {
         return saying::is_number(answers::RECORD, m as u64, count as u64, 8);
     }
-    let end = 10 + count;
+    let end = MODELS + count;
     if m < end {
         return saying::is_number(answers::RECORD, m as u64, end as u64, 9);
     }

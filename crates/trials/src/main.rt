@@ -1,5 +1,5 @@
 // Tries the engine from outside, by its public calls alone: books with stored models, lists with stored summaries, candidates with stored answers,
-// trees with stored counts, dated books on their days, clauses that are held and kept.
+// trees with stored counts, dated books on their days, clauses that are held and kept, constraints among them.
 // A line for each family says how many were tried and how many agree.
 // What is asked of a book stands in a file for each family, and the calls themselves in `asking`.
 // The first disagreement is printed with both answers and its record's label, and ends the program.
@@ -261,7 +261,7 @@ fn try_file(path: &[u8], stored: Stored) -> bool {
 }
 
 // Document 01's samples, the paper's examples, random books with the models that an outside solver gives, lists with their summaries,
-// candidates with their answers, trees with their counts, dated books with days, and clauses to hold.
+// candidates with their answers, trees with their counts, dated books with days, clauses to hold, and constraints to keep.
 fn main() {
     let _ = try_file(b"samples", Stored::Models)
         && try_file(b"paper", Stored::Models)
@@ -270,5 +270,6 @@ fn main() {
         && try_file(b"checks", Stored::Checks)
         && try_file(b"nodes", Stored::Nodes)
         && try_file(b"days", Stored::Days)
-        && try_file(b"holdings", Stored::Holdings);
+        && try_file(b"holdings", Stored::Holdings)
+        && try_file(b"constraints", Stored::Holdings);
 }
