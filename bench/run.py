@@ -1,15 +1,17 @@
 #!/usr/bin/env python3
-"""Builds plain.c with gcc -O2, compares what it and the engine's programs print, byte for byte, and prints the two times and their ratio:
+"""Builds plain.c and stages.c with gcc -O2, compares what they and the engine's programs print, byte for byte, and prints the two times and their ratio:
 the least processor time, user and system, of several turns, one program after the other; a time below 20 ms is the mean of as many runs as
-make that up, since of a shorter one the ratio says nothing. Compared are the report of every book of
+make that up, since of a shorter one the ratio says nothing. Compared with plain.c, at most 1.3 times its time, are the report of every book of
 books/ and, for three of them, the check of the word of all twenty-four literals. Then the report against clingo (Debian's package gringo),
 asked for 4,097 models of the positive form: wall clock of the whole process, the least of ten, on the same books and on random ones; where
 clingo is a bar, the report takes at most 0.7 of its time.
-Then the fixpoint of each book of stages/, by target/bin/pstable with 65,536 words in each working slice, against a limit in seconds;
+Then the fixpoint of each book of stages/, by target/bin/pstable with 65,536 words in each working slice, against a limit in seconds,
+and compared with stages.c, at most 1.5 times its time;
 and the tools that look for what the documents name. With books named, only their reports are compared with C.
 With --against PROGRAM only the report and another build of it, as that of an earlier commit, are compared, on the books of a million nodes
-and more: on none slower by more than a tenth, and faster in their sum.
-From the repository's root: rt check report pstable && python3 bench/run.py [RUNS [BOOK .. | --against PROGRAM]]"""
+and more: on none slower by more than a tenth, and faster in their sum. With --against-stages PROGRAM only the fixpoint by pstable and by an
+earlier build of it are compared, on three books of stages/: on each at least five times faster.
+From the repository's root: rt check report pstable && python3 bench/run.py [RUNS [BOOK .. | --against PROGRAM | --against-stages PROGRAM]]"""
 import os
 import random
 import resource
@@ -25,14 +27,20 @@ import make_trials
 report = os.path.join(here, "..", "target", "bin", "report")
 pstable = os.path.join(here, "..", "target", "bin", "pstable")
 plain = os.path.join(here, "..", "target", "plain_c")
+plain_stages = os.path.join(here, "..", "target", "stages_c")
 runs = int(sys.argv[1]) if len(sys.argv) > 1 else 5
 # the time that one turn takes at least, in seconds
 SHORTEST = 0.02
-subprocess.run(["gcc", "-O2", "-o", plain, os.path.join(here, "plain.c")], check=True)
+for built, source in ((plain, "plain.c"), (plain_stages, "stages.c")):
+    subprocess.run(["gcc", "-O2", "-o", built, os.path.join(here, source)], check=True)
 
 
 def in_books(name):
     return os.path.join(here, "books", name)
+
+
+def in_stages(name):
+    return os.path.join(here, "stages", name)
 
 
 def used():
@@ -53,24 +61,24 @@ def last_line(out):
     return out.decode().rstrip("\n").split("\n")[-1]
 
 
-def compare(label, program, books, times, *words):
-    """A line for each book; whether all went well."""
+def compare(label, program, books, times, *words, other=plain, name="C", bar=1.3):
+    """A line for each book; whether the program prints what the other does on all, on none slower than the bar times its time."""
     well = True
-    print("%-14s %8s %8s %6s  %s" % (label, os.path.basename(program), "C", "ratio", "last line"))
+    print("%-15s %8s %8s %6s  %s" % (label, os.path.basename(program), name, "ratio", "last line"))
     for book in books:
-        again = 1 + int(SHORTEST / max(run(plain, book, *words)[0], 0.0002))
+        again = 1 + int(SHORTEST / max(run(other, book, *words)[0], 0.0002))
         ours, theirs = [], []
         for _ in range(times):
             ours.append(run(program, book, *words, again=again))
-            theirs.append(run(plain, book, *words, again=again))
+            theirs.append(run(other, book, *words, again=again))
         outs = {out for _, out in ours + theirs}
         a, c = min(t for t, _ in ours), min(t for t, _ in theirs)
         last = last_line(min(outs))
         if len(outs) != 1:
             well, last = False, "THE OUTPUTS DIFFER"
-        if a > 5 or a > 1.3 * c:
+        if a > 5 or a > bar * c:
             well, last = False, last + "  (slow)"
-        print("%-14s %8.4f %8.4f %6.2f  %s" % (os.path.basename(book), a, c, a / c, last))
+        print("%-15s %8.4f %8.4f %6.2f  %s" % (os.path.basename(book), a, c, a / c, last))
     return well
 
 
@@ -123,7 +131,7 @@ def against_clingo(books):
         print("clingo is not there")
         return False
     well = True
-    print("%-14s %8s %8s %6s  %s" % ("clingo", "report", "clingo", "ratio", "last line"))
+    print("%-15s %8s %8s %6s  %s" % ("clingo", "report", "clingo", "ratio", "last line"))
     for name, names, clauses in books:
         a, out = least_wall([report], make_trials.text_of(names, clauses))
         c, answer = least_wall(["clingo", "-n", "4097", "--verbose=0", "-Wnone"], make_trials.positive_form(clauses))
@@ -134,14 +142,14 @@ def against_clingo(books):
             last += "  (no bar)"
         elif a > 0.7 * c:
             well, last = False, last + "  (slow)"
-        print("%-14s %8.4f %8.4f %6.2f  %s" % (name, a, c, a / c, last))
+        print("%-15s %8.4f %8.4f %6.2f  %s" % (name, a, c, a / c, last))
     return well
 
 
 def against(program):
     """A line for each book of a million nodes and more; whether the report prints the same, no slower than the bars say."""
     well, sums = True, [0, 0]
-    print("%-14s %8s %8s %6s  %s" % ("books", "report", "other", "ratio", "last line"))
+    print("%-15s %8s %8s %6s  %s" % ("books", "report", "other", "ratio", "last line"))
     for book in LATE:
         tries = [(run(report, in_books(book)), run(program, in_books(book))) for _ in range(runs)]
         least = [min(t[k][0] for t in tries) for k in (0, 1)]
@@ -152,17 +160,32 @@ def against(program):
             well, last = False, "THE OUTPUTS DIFFER"
         if least[0] > 1.1 * least[1]:
             well, last = False, last + "  (slow)"
-        print("%-14s %8.4f %8.4f %6.2f  %s" % (book, *least, least[0] / least[1], last))
-    print("%-14s %8.4f %8.4f %6.2f" % ("sum", *sums, sums[0] / sums[1]))
+        print("%-15s %8.4f %8.4f %6.2f  %s" % (book, *least, least[0] / least[1], last))
+    print("%-15s %8.4f %8.4f %6.2f" % ("sum", *sums, sums[0] / sums[1]))
     return well and sums[0] < sums[1]
+
+
+# ---- the fixpoint
+FIXPOINT = ("fixpoint", "4096", "65536")
+# the seconds that the fixpoint of a book may take, and how its output ends
+STAGES = {
+    "one_head": (0.05, "complete 6"),
+    "random_heads": (2, "refused 12"),
+    "large_stage": (1, "complete 120"),
+    "all_literals": (0.25, "complete 16"),
+    "all_literals_16": (0.25, "complete 16"),
+    "pairs": (0.25, "complete 1024"),
+}
+# books of large stages that many choices make
+CROWDED = ("all_literals", "all_literals_16", "pairs")
 
 
 def within(name, limit, end):
     """The fixpoint of the book ends so, in so many seconds."""
-    tries = [run(pstable, os.path.join(here, "stages", name), "fixpoint", "4096", "65536") for _ in range(runs)]
+    tries = [run(pstable, in_stages(name), *FIXPOINT) for _ in range(runs)]
     a, last = min(t for t, _ in tries), last_line(tries[0][1])
     well = a <= limit and last == end
-    print("%-14s %8.3f %8.2f  %s" % (name, a, limit, last if well else last + "  (expected %s in %s s)" % (end, limit)))
+    print("%-15s %8.3f %8.2f  %s" % (name, a, limit, last if well else last + "  (expected %s in %s s)" % (end, limit)))
     return well
 
 
@@ -173,6 +196,9 @@ def tool(name):
 
 if sys.argv[2:3] == ["--against"] and len(sys.argv) == 4:
     sys.exit(not against(os.path.abspath(sys.argv[3])))
+if sys.argv[2:3] == ["--against-stages"] and len(sys.argv) == 4:
+    earlier = os.path.abspath(sys.argv[3])
+    sys.exit(not compare("stages", pstable, [in_stages(name) for name in CROWDED], runs, *FIXPOINT, other=earlier, name="earlier", bar=0.2))
 if len(sys.argv) > 2:
     sys.exit(not compare("books", report, sys.argv[2:], runs))
 names = sorted(os.listdir(in_books("")))
@@ -180,9 +206,8 @@ results = [compare("books", report, [in_books(name) for name in names], runs)]
 checks = ("facts", "repeated_facts", "highest_fact")
 results.append(compare("checks", pstable, [in_books(name) for name in checks], runs, "check", "16777215"))
 results.append(against_clingo([from_file(name) for name in names] + list(random_books())))
-print("%-14s %8s %8s  %s" % ("stages", "fixpoint", "limit", "last line"))
-# the seconds that the fixpoint of a book may take, and how its output ends
-stages = {"one_head": (0.05, "complete 6"), "random_heads": (2, "refused 12"), "large_stage": (1, "complete 120")}
-results += [within(name, limit, end) for name, (limit, end) in stages.items()]
+print("%-15s %8s %8s  %s" % ("stages", "fixpoint", "limit", "last line"))
+results += [within(name, limit, end) for name, (limit, end) in STAGES.items()]
+results.append(compare("stages", pstable, [in_stages(name) for name in STAGES], runs, *FIXPOINT, other=plain_stages, bar=1.5))
 results += [tool(name) for name in ("check_promises.py", "check_books.py")]
 sys.exit(not all(results))

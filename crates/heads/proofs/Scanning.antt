@@ -8,17 +8,16 @@ use native.Mathlib.Omega.{arith}
 use lib.Bits.{bitAnd, bitOr}
 use lib.Count.{ones}
 use lib.Dec.{T, eqb, ltb}
-use lib.ListN.{length, take}
+use lib.ListN.{length}
 use borrow.Author.Tests.{eqb-true, eq-eqb, ltb-true}
-use Rattle.sets.specs.Lists.{_∈_, Rising, anyOf, sift}
+use Rattle.sets.specs.Lists.{_∈_, anyOf, sift}
 use Rattle.sets.specs.Words.{bit, apart, meets, Highest}
 use Rattle.sets.proofs.Lists.{some-in, none-each, in-sift, out-sift, sift-in, sift-out, sift-none, in-++, in-++-l, in-++-r}
 use Rattle.sets.proofs.Tests.{T?, not-T-false}
 use Rattle.sets.proofs.Digits.{bit-zero, bits-ext}
-use Rattle.rising.specs.Growing.{Grown}
+use Rattle.rising.specs.Growing.{held, Runs, Gathered}
 use Rattle.rising.specs.RisingSets.{insertInto, addAll}
-use Rattle.rising.specs.Slices.{Inserted}
-use Rattle.rising.proofs.Growing.{Growing, inserted-grown, grown-as, grown-held, grow-start, grow-call, grow-done, grow-over}
+use Rattle.rising.proofs.Growing.{Growing, held-rising, gathered-as, gathered-held, grow-start, grow-call, grow-done, grow-over}
 use Rattle.rising.proofs.RisingSets.{addAll-same}
 use Rattle.heads.specs.Heads.{picks, offeredBy, without, between}
 use Rattle.sets.proofs.Branches.{in-or, or-left, or-right, both-in, in-both, from-out, from-in, branches}
@@ -58,49 +57,49 @@ module _ (H : List ℕ) (j free w : ℕ) where
 
 -- ---- what is put in
 module _ (L xs : List ℕ) (members : ℕ) where
-  pub grown-none : (p : ℕ → Bool) → members ≤ length xs → sift p L ≡ [] → Grown (length xs) (addAll (sift p L) (take members xs)) xs members
+  pub grown-none : (p : ℕ → Bool) → members ≤ length xs → Runs members xs → sift p L ≡ [] → Gathered (length xs) (addAll (sift p L) (held members xs)) xs members
   unfolding addAll
-  grown-none p h e = grown-as (length xs) (take members xs) (addAll (sift p L) (take members xs)) xs members
-      (ap (λ (l : List ℕ). addAll l (take members xs)) e) (grown-held xs members h)
+  grown-none p h runs e = gathered-as (length xs) (held members xs) (addAll (sift p L) (held members xs)) xs members
+      (ap (λ (l : List ℕ). addAll l (held members xs)) e) (gathered-held xs members h runs)
 
   module _ (w : ℕ) where
-    pub one-not : (b : Bool) → members ≤ length xs → b ≡ anyOf (eqb w) L → b ≡ false → Grown (length xs) (addAll (sift (eqb w) L) (take members xs)) xs members
-    one-not b h e f = grown-none (eqb w) h (sift-none (eqb w) L (none-each (eqb w) L (sym e ∙ f)))
+    pub one-not : (b : Bool) → members ≤ length xs → Runs members xs → b ≡ anyOf (eqb w) L → b ≡ false → Gathered (length xs) (addAll (sift (eqb w) L) (held members xs)) xs members
+    one-not b h runs e f = grown-none (eqb w) h runs (sift-none (eqb w) L (none-each (eqb w) L (sym e ∙ f)))
 
-    pub one-put : (b : Bool) (out : List ℕ) (r : ℕ) → Rising (take members xs) → b ≡ anyOf (eqb w) L → b ≡ true → Inserted xs out (insertInto w (take members xs)) r
-        → Grown (length xs) (addAll (sift (eqb w) L) (take members xs)) out r
+    pub one-put : (b : Bool) (out : List ℕ) (r : ℕ) → b ≡ anyOf (eqb w) L → b ≡ true → Gathered (length xs) (insertInto w (held members xs)) out r
+        → Gathered (length xs) (addAll (sift (eqb w) L) (held members xs)) out r
     unfolding addAll
-    one-put b out r rise e t p = grown-as (length xs) (insertInto w (take members xs)) (addAll (sift (eqb w) L) (take members xs)) out r
-        (addAll-same (sift (eqb w) L) (w ∷ []) (take members xs) rise
+    one-put b out r e t p = gathered-as (length xs) (insertInto w (held members xs)) (addAll (sift (eqb w) L) (held members xs)) out r
+        (addAll-same (sift (eqb w) L) (w ∷ []) (held members xs) (held-rising members xs)
         (λ z m. inl (sym (eqb-true w z (sift-out (eqb w) L z m .1))))
         (λ z m. ⊎-elim
         (λ q. let s = some-in (eqb w) L (sym e ∙ t) in subst (λ (y : ℕ). y ∈ sift (eqb w) L) (sym (eqb-true w (s .0) (s .2)) ∙ sym q) (sift-in (eqb w) L (s .0) (s .1) (s .2)))
         (λ q. absurd q) m))
-        (inserted-grown xs out (insertInto w (take members xs)) r p)
+        p
 
     module _ (free : ℕ) where
-      pub scan-infeasible : (b : Bool) → members ≤ length xs → (b ≡ true → sift (between free w) L ≡ []) → b ≡ true
-          → Grown (length xs) (addAll (sift (between free w) L) (take members xs)) xs members
-      scan-infeasible b h f t = grown-none (between free w) h (f t)
+      pub scan-infeasible : (b : Bool) → members ≤ length xs → Runs members xs → (b ≡ true → sift (between free w) L ≡ []) → b ≡ true
+          → Gathered (length xs) (addAll (sift (between free w) L) (held members xs)) xs members
+      scan-infeasible b h runs f t = grown-none (between free w) h runs (f t)
 
-      pub scan-one : (out : List ℕ) (r : ℕ) → Rising (take members xs) → free ≡ 0 → Grown (length xs) (addAll (sift (eqb w) L) (take members xs)) out r
-          → Grown (length xs) (addAll (sift (between free w) L) (take members xs)) out r
-      scan-one out r rise z g = grown-as (length xs) (addAll (sift (eqb w) L) (take members xs)) (addAll (sift (between free w) L) (take members xs)) out r
-          (addAll-same (sift (between free w) L) (sift (eqb w) L) (take members xs) rise
+      pub scan-one : (out : List ℕ) (r : ℕ) → free ≡ 0 → Gathered (length xs) (addAll (sift (eqb w) L) (held members xs)) out r
+          → Gathered (length xs) (addAll (sift (between free w) L) (held members xs)) out r
+      scan-one out r z g = gathered-as (length xs) (addAll (sift (eqb w) L) (held members xs)) (addAll (sift (between free w) L) (held members xs)) out r
+          (addAll-same (sift (between free w) L) (sift (eqb w) L) (held members xs) (held-rising members xs)
           (λ x m. let s = out-sift (between free w) L x m in sift-in (eqb w) L x (s .0) (eq-eqb w x (between-one free w x z (is-between free w x (s .1)))))
           (λ x m. let s = sift-out (eqb w) L x m in let e = eqb-true w x (s .1) in
           in-sift (between free w) L x (s .0) (subst (λ (y : ℕ). T (between free w y)) e (between-is free w w (one-between free w)))))
           g
 
-      module _ (t : ℕ) (h : Highest free t) (rise : Rising (take members xs)) (fits : members ≤ length xs) where
+      module _ (t : ℕ) (h : Highest free t) (runs : Runs members xs) (fits : members ≤ length xs) where
         abbrev out-part : List ℕ
         out-part = sift (between (free - t) w) L
 
         abbrev in-part : List ℕ
         in-part = sift (between (free - t) (bitOr w t)) L
 
-        halves : addAll (sift (between free w) L) (take members xs) ≡ addAll (out-part ++ in-part) (take members xs)
-        halves = addAll-same (sift (between free w) L) (out-part ++ in-part) (take members xs) rise
+        halves : addAll (sift (between free w) L) (held members xs) ≡ addAll (out-part ++ in-part) (held members xs)
+        halves = addAll-same (sift (between free w) L) (out-part ++ in-part) (held members xs) (held-rising members xs)
             (λ x m.
             let s = out-sift (between free w) L x m in
             ⊎-elim
@@ -113,29 +112,29 @@ module _ (L xs : List ℕ) (members : ℕ) where
             in-sift (between free w) L x (s .0) (between-is free w x (from-in free t h w x (is-between (free - t) (bitOr w t) x (s .1)))))
             (in-++ x out-part in-part m))
 
-        module _ (ys : List ℕ) (m : ℕ) (g : Grown (length xs) (addAll (sift (between (free - t) w) L) (take members xs)) ys m) where
-          half : Growing (length xs) (addAll (out-part ++ in-part) (take members xs)) in-part ys m
-          half = grow-call (length xs) (addAll (out-part ++ in-part) (take members xs)) out-part (out-part ++ in-part) in-part xs ys members m
-              (grow-start xs (out-part ++ in-part) members fits rise) refl fits g
+        module _ (ys : List ℕ) (m : ℕ) (g : Gathered (length xs) (addAll (sift (between (free - t) w) L) (held members xs)) ys m) where
+          half : Growing (length xs) (addAll (out-part ++ in-part) (held members xs)) in-part ys m
+          half = grow-call (length xs) (addAll (out-part ++ in-part) (held members xs)) out-part (out-part ++ in-part) in-part xs ys members m
+              (grow-start xs (out-part ++ in-part) members fits runs) refl fits g
 
-          pub scan-over : length ys < m → Grown (length xs) (addAll (sift (between free w) L) (take members xs)) ys m
-          scan-over o = grown-as (length xs) (addAll (out-part ++ in-part) (take members xs)) (addAll (sift (between free w) L) (take members xs)) ys m halves
-              (grow-over (length xs) (addAll (out-part ++ in-part) (take members xs)) in-part ys m half (omega (arith, g .long)))
+          pub scan-over : length ys < m → Gathered (length xs) (addAll (sift (between free w) L) (held members xs)) ys m
+          scan-over o = gathered-as (length xs) (addAll (out-part ++ in-part) (held members xs)) (addAll (sift (between free w) L) (held members xs)) ys m halves
+              (grow-over (length xs) (addAll (out-part ++ in-part) (held members xs)) in-part ys m half (omega (arith, g .long)))
 
-          pub scan-rises : m ≤ length ys → Rising (take m ys)
-          scan-rises o = half .rises (omega (arith, g .long))
+          pub scan-runs : m ≤ length ys → Runs m ys
+          scan-runs o = half .runs (omega (arith, g .long))
 
-          pub scan-both : (out : List ℕ) (r : ℕ) → m ≤ length ys → Grown (length ys) (addAll (sift (between (free - t) (bitOr w t)) L) (take m ys)) out r
-              → Grown (length xs) (addAll (sift (between free w) L) (take members xs)) out r
-          scan-both out r o f = grown-as (length xs) (addAll (out-part ++ in-part) (take members xs)) (addAll (sift (between free w) L) (take members xs)) out r halves
-              (grow-done (length xs) (addAll (out-part ++ in-part) (take members xs)) [] out r
-              (grow-call (length xs) (addAll (out-part ++ in-part) (take members xs)) in-part in-part [] ys out m r half (sym (append-nil in-part)) (omega (arith, g .long)) f) refl)
+          pub scan-both : (out : List ℕ) (r : ℕ) → m ≤ length ys → Gathered (length ys) (addAll (sift (between (free - t) (bitOr w t)) L) (held m ys)) out r
+              → Gathered (length xs) (addAll (sift (between free w) L) (held members xs)) out r
+          scan-both out r o f = gathered-as (length xs) (addAll (out-part ++ in-part) (held members xs)) (addAll (sift (between free w) L) (held members xs)) out r halves
+              (grow-done (length xs) (addAll (out-part ++ in-part) (held members xs)) [] out r
+              (grow-call (length xs) (addAll (out-part ++ in-part) (held members xs)) in-part in-part [] ys out m r half (sym (append-nil in-part)) (omega (arith, g .long)) f) refl)
 
 -- ---- all of them: they hold j and have no other literal but of the heads
-pub scan-all : (H xs : List ℕ) (members j u free : ℕ) (out : List ℕ) (r : ℕ) → Rising (take members xs) → u ≡ offeredBy H → free ≡ without u j
-    → Grown (length xs) (addAll (sift (between free j) (picks H j)) (take members xs)) out r → Grown (length xs) (addAll (picks H j) (take members xs)) out r
-scan-all H xs members j u free out r rise e f g = grown-as (length xs) (addAll (sift (between free j) (picks H j)) (take members xs)) (addAll (picks H j) (take members xs)) out r
-    (addAll-same (picks H j) (sift (between free j) (picks H j)) (take members xs) rise
+pub scan-all : (H xs : List ℕ) (members j u free : ℕ) (out : List ℕ) (r : ℕ) → u ≡ offeredBy H → free ≡ without u j
+    → Gathered (length xs) (addAll (sift (between free j) (picks H j)) (held members xs)) out r → Gathered (length xs) (addAll (picks H j) (held members xs)) out r
+scan-all H xs members j u free out r e f g = gathered-as (length xs) (addAll (sift (between free j) (picks H j)) (held members xs)) (addAll (picks H j) (held members xs)) out r
+    (addAll-same (picks H j) (sift (between free j) (picks H j)) (held members xs) (held-rising members xs)
     (λ x m. in-sift (between free j) (picks H j) x m (between-is free j x (record {
       holds = picks-holds H j x m;
       within = λ i t. ⊎-elim

@@ -5,10 +5,10 @@ ghost use mathlib.Core.List.{[]};
 ghost use Prim.Native.Nat.{_≤_, _<_};
 ghost use lib.Count.{ones};
 ghost use lib.Dec.{eqb, ltb};
-ghost use lib.ListN.{length, take};
-ghost use Rattle.sets.specs.Lists.{Rising, anyOf, sift, onward, tabulate};
+ghost use lib.ListN.{length};
+ghost use Rattle.sets.specs.Lists.{anyOf, sift, onward, tabulate};
 ghost use Rattle.sets.specs.Words.{apart, meets, Highest};
-ghost use Rattle.rising.specs.Growing.{Grown};
+ghost use Rattle.rising.specs.Growing.{held, Runs, Gathered};
 ghost use Rattle.rising.specs.RisingSets.{addAll};
 ghost use Rattle.heads.specs.Heads.{headAt, picks, offeredBy, without, between, Literal};
 
@@ -159,11 +159,11 @@ fn insert_made<'a>(
     set: &mut [u64],
     members: usize,
 ) -> usize
-    requires { ⌜ (n ≤ 64) × (members ≤ length (now set)) × Rising (take members (now set)) ⌝ }
-    ensures { λ r. ⌜ Grown (length (now (set .entry))) (addAll (sift (eqb w) (picks (tabulate (headAt (now (wide .entry))) n) j)) (take members (now (set .entry)))) (now (set .exit)) r ⌝ }
+    requires { ⌜ (n ≤ 64) × (members ≤ length (now set)) × Runs members (now set) ⌝ }
+    ensures { λ r. ⌜ Gathered (length (now (set .entry))) (addAll (sift (eqb w) (picks (tabulate (headAt (now (wide .entry))) n) j)) (held members (now (set .entry)))) (now (set .exit)) r ⌝ }
 {
     if made(wide, n, w, 0, j, partner) {
-        return rising::insert(set, members, w);
+        return rising::add(set, members, w);
     }
     members
 }
@@ -181,8 +181,8 @@ fn scan(
     set: &mut [u64],
     members: usize,
 ) -> usize
-    requires { ⌜ (n ≤ 64) × (members ≤ length (now set)) × Rising (take members (now set)) ⌝ }
-    ensures { λ r. ⌜ Grown (length (now (set .entry))) (addAll (sift (between free w) (picks (tabulate (headAt (now (wide .entry))) n) j)) (take members (now (set .entry)))) (now (set .exit)) r ⌝ }
+    requires { ⌜ (n ≤ 64) × (members ≤ length (now set)) × Runs members (now set) ⌝ }
+    ensures { λ r. ⌜ Gathered (length (now (set .entry))) (addAll (sift (between free w) (picks (tabulate (headAt (now (wide .entry))) n) j)) (held members (now (set .entry)))) (now (set .exit)) r ⌝ }
 {
     if infeasible(wide, n, j, free, w, t, partner) {
         return members;
@@ -201,8 +201,8 @@ fn scan(
 
 // Puts into the set every set made of `j` and one literal, chosen every way, of each of the first `n` heads.
 pub fn combine(wide: &[u64; 64], n: usize, j: u64, set: &mut [u64], members: usize) -> usize
-    requires { ⌜ (n ≤ 64) × (members ≤ length (now set)) × Rising (take members (now set)) ⌝ }
-    ensures { λ r. ⌜ Grown (length (now (set .entry))) (addAll (picks (tabulate (headAt (now (wide .entry))) n) j) (take members (now (set .entry)))) (now (set .exit)) r ⌝ }
+    requires { ⌜ (n ≤ 64) × (members ≤ length (now set)) × Runs members (now set) ⌝ }
+    ensures { λ r. ⌜ Gathered (length (now (set .entry))) (addAll (picks (tabulate (headAt (now (wide .entry))) n) j) (held members (now (set .entry)))) (now (set .exit)) r ⌝ }
 {
     let mut partner = [64usize; 64];
     let free = less(offered(wide, n), j);

@@ -1,2 +1,3 @@
 -- Laws of the routines that select the minimal models.
 pub mod Selecting
+pub mod Earlier

@@ -1,14 +1,15 @@
 -- The members of a list that pass a test, copied, and the minimal ones of these: laws of the loops. Assumes nothing.
 use Prim.Native.Nat.{ℕ, suc, _+_, _≤_, _<_}
 use lib.ListN.{length-take, length, getD, take, drop, set, length-set, drop-of-length-le}
-use lib.Seq.{drop-cons, length-take-le, getD-take, take-suc-set}
+use lib.Seq.{drop-cons, length-take-le, getD-take, take-all, take-suc, take-suc-set}
 use mathlib.Core.Bool.{Bool, true, false, cond}
-use mathlib.Core.List.{List, [], _∷_, _++_, append-assoc, append-nil}
+use mathlib.Core.List.{List, [], _∷_, _++_, append-nil}
 use mathlib.Core.Path.{_≡_, refl, sym, ap, ap₂, _∙_, subst}
 use native.Mathlib.Numerals.{add-one}
 use native.Mathlib.Omega.{arith}
-use Rattle.sets.specs.Lists.{sift}
-use Rattle.lists.proofs.Loops.{ahead, at-end}
+use Rattle.sets.proofs.Rising.{sift-rising}
+use Rattle.sets.specs.Lists.{sift, Rising}
+use Rattle.sets.proofs.Lists.{sift-append}
 use Rattle.rising.specs.Slices.{Prefix}
 use Rattle.minimal.specs.Minimal.{leastIn, minimals}
 
@@ -38,25 +39,30 @@ one-more l count p h k = drop-cons (take count l) p 0 (omega (arith, length-take
 pub no-more : (l : List ℕ) (count p : ℕ) → count ≤ length l → count ≤ p → drop p (take count l) ≡ []
 no-more l count p h k = drop-of-length-le (take count l) {i = p} (omega (arith, length-take-le count l h))
 
--- ---- the members of a list that pass a test, copied: n of those below p do
+-- ---- the members of a list that pass a test, copied: the n kept are those that pass of the first p
 
 pub record Sifting (t : ℕ → Bool) (l xs ys : List ℕ) (n p : ℕ) : Type 0 where
   pub room : length l ≤ length ys
   pub long : length ys ≡ length xs
   pub low : n ≤ p
   pub within : p ≤ length l
-  pub whole : take n ys ++ sift t (drop p l) ≡ sift t l
+  pub kept : take n ys ≡ sift t (take p l)
 
 module _ (t : ℕ → Bool) (l xs : List ℕ) where
   pub sifting-start : length l ≤ length xs → Sifting t l xs xs 0 0
-  sifting-start h = record { room = h; long = refl; low = omega arith; within = omega arith; whole = refl }
+  sifting-start h = record { room = h; long = refl; low = omega arith; within = omega arith; kept = sym (sift-none t) }
 
   module _ (ys : List ℕ) (n p : ℕ) (s : Sifting t l xs ys n p) where
-    here : p < length l → take n ys ++ cond (t (getD l p 0)) (getD l p 0 ∷ sift t (drop (p + 1) l)) (sift t (drop (p + 1) l)) ≡ sift t l
-    here h = ap (λ (k : List ℕ). take n ys ++ k) (sym (sift-one t (getD l p 0) (drop (p + 1) l)) ∙ ap (sift t) (sym (ahead l p h))) ∙ s .whole
+    pub sifting-fits : n ≤ length ys
+    sifting-fits = omega (arith, s .low, s .room, s .within)
+
+    further : p < length l → take n ys ++ cond (t (getD l p 0)) (getD l p 0 ∷ []) [] ≡ sift t (take (p + 1) l)
+    unfolding sift
+    further h = ap (λ (k : List ℕ). k ++ sift t (getD l p 0 ∷ [])) (s .kept) ∙ sym (sift-append t (take p l) (getD l p 0 ∷ []))
+        ∙ ap (sift t) (sym (ap (λ (i : ℕ). take i l) (add-one p) ∙ take-suc l p 0 h))
 
     pub sifting-skip : p < length l → t (getD l p 0) ≡ false → Sifting t l xs ys n (p + 1)
-    sifting-skip h e = record { room = s .room; long = s .long; low = omega (arith, s .low); within = omega arith; whole = rw e at (here h) }
+    sifting-skip h e = record { room = s .room; long = s .long; low = omega (arith, s .low); within = omega arith; kept = sym (append-nil (take n ys)) ∙ rw e at (further h) }
 
     pub sifting-keep : p < length l → t (getD l p 0) ≡ true → Sifting t l xs (set ys n (getD l p 0)) (n + 1) (p + 1)
     sifting-keep h e = record {
@@ -64,14 +70,13 @@ module _ (t : ℕ → Bool) (l xs : List ℕ) where
       long = length-set ys n (getD l p 0) ∙ s .long;
       low = omega (arith, s .low);
       within = omega arith;
-      whole = ap (λ (k : List ℕ). k ++ sift t (drop (p + 1) l)) (ap (λ (i : ℕ). take i (set ys n (getD l p 0))) (add-one n) ∙ take-suc-set ys n (getD l p 0) (omega (arith, s .low, s .room)))
-          ∙ append-assoc (take n ys) (getD l p 0 ∷ []) (sift t (drop (p + 1) l)) ∙ rw e at (here h);
+      kept = ap (λ (i : ℕ). take i (set ys n (getD l p 0))) (add-one n) ∙ take-suc-set ys n (getD l p 0) (omega (arith, s .low, s .room)) ∙ rw e at (further h);
     }
 
     pub sifting-done : length l ≤ p → Prefix (sift t l) ys n
     sifting-done h =
-        let w : take n ys ≡ sift t l = sym (ap (λ (k : List ℕ). take n ys ++ k) (ap (sift t) (at-end l p h) ∙ sift-none t) ∙ append-nil (take n ys)) ∙ s .whole in
-        record { count = sym (length-take-le n ys (omega (arith, s .low, s .room, s .within))) ∙ ap length w; words = w }
+        let w : take n ys ≡ sift t l = s .kept ∙ ap (sift t) (take-all p l h) in
+        record { count = sym (length-take-le n ys sifting-fits) ∙ ap length w; words = w }
 
 -- ---- what is kept of the first m words of a in as long a list as b
 
@@ -84,6 +89,9 @@ module _ (t : ℕ → Bool) (m k : ℕ) (a kept : List ℕ) (p : Prefix (sift t 
 
   pub kept-room : m ≤ length a → length (take k kept) ≤ length a
   kept-room h = omega (arith, fewer, length-take k kept)
+
+  pub kept-rising : Rising (take m a) → Rising (take k kept)
+  kept-rising r = subst Rising (sym (p .words)) (sift-rising t (take m a) r)
 
   -- the minimal ones of these
   pub kept-minimal : (out : List ℕ) (n : ℕ) → Prefix (sift (leastIn (take k kept)) (take k kept)) out n → Prefix (minimals (sift t (take m a))) out n

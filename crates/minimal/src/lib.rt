@@ -2,7 +2,7 @@
 ghost use mathlib.Core.Path.{_≡_};
 ghost use Prim.Native.Nat.{_≤_};
 ghost use lib.ListN.{length, take};
-ghost use Rattle.sets.specs.Lists.{sift, anyOf, tabulate};
+ghost use Rattle.sets.specs.Lists.{sift, anyOf, tabulate, Rising};
 ghost use Rattle.rising.specs.Slices.{Prefix};
 ghost use Rattle.operator.specs.Operator.{ruleAt};
 ghost use Rattle.minimal.specs.Minimal.{violates, satisfies, properIn, leastIn, minimals};
@@ -30,7 +30,7 @@ fn violated<'a>(heads: &'a [u64], bodies: &'a [u64], count: usize, w: u64) -> bo
 }
 
 // Whether `w` satisfies every clause.
-fn satisfied<'a>(heads: &'a [u64], bodies: &'a [u64], count: usize, w: u64) -> bool
+pub fn satisfied<'a>(heads: &'a [u64], bodies: &'a [u64], count: usize, w: u64) -> bool
     requires { ⌜ (count ≤ length (now heads)) × (count ≤ length (now bodies)) ⌝ }
     ensures { λ r. ⌜ r ≡ satisfies (tabulate (ruleAt (now (heads .entry)) (now (bodies .entry))) count) w ⌝ }
 {
@@ -90,15 +90,15 @@ fn minimal_among(list: &[u64], w: u64) -> bool
     !smaller(list, w)
 }
 
-// Copies into `kept` the minimal words of the list.
+// Copies into `kept` the minimal words of the rising list: a smaller one stands before, and a minimal one of those is kept.
 fn keep_minimal(list: &[u64], kept: &mut [u64]) -> usize
-    requires { ⌜ length (now list) ≤ length (now kept) ⌝ }
+    requires { ⌜ (length (now list) ≤ length (now kept)) × Rising (now list) ⌝ }
     ensures { λ r. ⌜ Prefix (sift (leastIn (now (list .entry))) (now (list .entry))) (now (kept .exit)) r ⌝ }
 {
     let mut n: usize = 0;
     let mut p: usize = 0;
     while p < list.len() {
-        if minimal_among(list, list[p]) {
+        if minimal_among(&kept[..n], list[p]) {
             kept[n] = list[p];
             n += 1;
             p += 1;
@@ -119,7 +119,7 @@ pub fn minimal_of<'a>(
     members: usize,
     second: &mut [u64],
 ) -> usize
-    requires { ⌜ (count ≤ length (now heads)) × (count ≤ length (now bodies)) × (members ≤ length (now first)) × (members ≤ length (now second)) ⌝ }
+    requires { ⌜ (count ≤ length (now heads)) × (count ≤ length (now bodies)) × (members ≤ length (now first)) × (members ≤ length (now second)) × Rising (take members (now first)) ⌝ }
     ensures { λ r. ⌜ Prefix (minimals (sift (satisfies (tabulate (ruleAt (now (heads .entry)) (now (bodies .entry))) count)) (take members (now (first .entry))))) (now (first .exit)) r ⌝ }
 {
     let k = keep_models(heads, bodies, count, &first[..members], second);

@@ -9,7 +9,7 @@ use Rattle.sets.specs.Lists.{anyOf}
 use Rattle.sets.specs.Words.{inside, put}
 use Rattle.literals.specs.Literals.{literals}
 use Rattle.rising.specs.RisingSets.{gather}
-use Rattle.rising.specs.Growing.{Grown}
+use Rattle.rising.specs.Growing.{Gathered}
 
 -- a clause of the transformed program: the words of its head and its body
 pub record WordRule : Type 0 where
@@ -52,6 +52,6 @@ barred i Q = anyOf (bars i) Q
 
 -- the set has grown to `all`, and the first n words of ws are those of vs, which is as long; the words of ws behind them are free
 pub record Chosen (room : ℕ) (all out : List ℕ) (r n : ℕ) (vs ws : List ℕ) : Type 0 where
-  pub grown : Grown room all out r
+  pub grown : Gathered room all out r
   pub same : (p : ℕ) → p < n → getD ws p 0 ≡ getD vs p 0
   pub long : length ws ≡ length vs

@@ -6,8 +6,8 @@ ghost use Prim.Native.Nat.{_≤_, _<_};
 ghost use lib.Count.{ones};
 ghost use lib.Dec.{ltb};
 ghost use lib.ListN.{length, take};
-ghost use Rattle.sets.specs.Lists.{Rising, onward, tabulate};
-ghost use Rattle.rising.specs.Growing.{Grown};
+ghost use Rattle.sets.specs.Lists.{onward, tabulate};
+ghost use Rattle.rising.specs.Growing.{Grown, held, Runs, Gathered};
 ghost use Rattle.rising.specs.RisingSets.{addAll};
 ghost use Rattle.heads.specs.Heads.{headAt, picks};
 ghost use Rattle.operator.specs.Operator.{ruleAt, choices, fired, bars, barred, next, Chosen};
@@ -33,8 +33,8 @@ fn choose<'a>(
     set: &mut [u64],
     members: usize,
 ) -> usize
-    requires { ⌜ (count ≤ length (now heads)) × (count ≤ length (now bodies)) × (k ≤ count) × (length (now wide) ≡ 64) × (n ≤ 64) × (members ≤ length (now set)) × Rising (take members (now set)) ⌝ }
-    ensures { λ r. ⌜ Chosen (length (now (set .entry))) (addAll (picks (tabulate (headAt (now (wide .entry))) n ++ fired i (onward (ruleAt (now (heads .entry)) (now (bodies .entry))) count k)) j) (take members (now (set .entry)))) (now (set .exit)) r n (now (wide .entry)) (now (wide .exit)) ⌝ }
+    requires { ⌜ (count ≤ length (now heads)) × (count ≤ length (now bodies)) × (k ≤ count) × (length (now wide) ≡ 64) × (n ≤ 64) × (members ≤ length (now set)) × Runs members (now set) ⌝ }
+    ensures { λ r. ⌜ Chosen (length (now (set .entry))) (addAll (picks (tabulate (headAt (now (wide .entry))) n ++ fired i (onward (ruleAt (now (heads .entry)) (now (bodies .entry))) count k)) j) (held members (now (set .entry)))) (now (set .exit)) r n (now (wide .entry)) (now (wide .exit)) ⌝ }
 {
     if k == count {
         return heads::combine(wide, n, j, set, members);
@@ -82,8 +82,8 @@ fn blocked<'a>(heads: &'a [u64], bodies: &'a [u64], count: usize, i: u64) -> boo
     false
 }
 
-// Puts into the set what the member `i` gives.
-fn give<'a>(
+// Puts into the set what the member `i` gives; gives the number of members, or one more than there are places.
+pub fn give<'a>(
     heads: &'a [u64],
     bodies: &'a [u64],
     count: usize,
@@ -91,8 +91,8 @@ fn give<'a>(
     set: &mut [u64],
     members: usize,
 ) -> usize
-    requires { ⌜ (count ≤ length (now heads)) × (count ≤ length (now bodies)) × (members ≤ length (now set)) × Rising (take members (now set)) ⌝ }
-    ensures { λ r. ⌜ Grown (length (now (set .entry))) (addAll (choices i (tabulate (ruleAt (now (heads .entry)) (now (bodies .entry))) count) i) (take members (now (set .entry)))) (now (set .exit)) r ⌝ }
+    requires { ⌜ (count ≤ length (now heads)) × (count ≤ length (now bodies)) × (members ≤ length (now set)) × Runs members (now set) ⌝ }
+    ensures { λ r. ⌜ Gathered (length (now (set .entry))) (addAll (choices i (tabulate (ruleAt (now (heads .entry)) (now (bodies .entry))) count) i) (held members (now (set .entry)))) (now (set .exit)) r ⌝ }
 {
     if blocked(heads, bodies, count, i) {
         return members;
@@ -122,5 +122,9 @@ pub fn step<'a>(
         n = give(heads, bodies, count, stage[p], after, n);
         p += 1;
     }
+    if after.len() < n {
+        return n;
+    }
+    rising::settle(after, n);
     n
 }

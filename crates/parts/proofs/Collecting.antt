@@ -15,14 +15,15 @@ use native.Mathlib.Omega.{arith}
 use Rattle.transform.specs.Listing.{literalPart, canonical, partsOf}
 use Rattle.parts.specs.Overwriting.{overwrite, Overwrites}
 use Rattle.sets.proofs.Lists.{at-in, map-in}
-use Rattle.sets.specs.Lists.{_∈_, Each, sift, Rising}
+use Rattle.sets.specs.Lists.{_∈_, Each, sift}
 use Rattle.sets.specs.Words.{inside}
-use Rattle.rising.proofs.Growing.{Growing, inserted-grown, grow-start, grow-call, grow-done}
-use Rattle.rising.proofs.RisingSets.{nothing-rises, in-addAll}
+use Rattle.rising.proofs.Growing.{Growing, no-runs, held-none, grow-start, grow-call, grow-done}
+use Rattle.rising.specs.Growing.{held, Runs, Gathered, Settled}
+use Rattle.rising.proofs.RisingSets.{in-addAll}
 use Rattle.minimal.proofs.Selecting.{sift-one, sift-none, sift-short, one-more, no-more}
 use Rattle.rising.proofs.Slices.{size-fits}
 use Rattle.rising.specs.RisingSets.{insertInto, addAll}
-use Rattle.rising.specs.Slices.{Inserted, Prefix}
+use Rattle.rising.specs.Slices.{Prefix}
 
 pub low-is : (w m : ℕ) → m < 64 → bitAnd w (1 * 2 ^ m % 2 ^ 64 - 1) ≡ literalPart m w
 low-is w m h = ap (λ (x : ℕ). bitAnd w (x - 1)) (shl-exact 1 m 64 (lit< tt) (omega arith) ∙ one-mul (2 ^ m)) ∙ and-mask w m
@@ -72,8 +73,8 @@ module _ (m : ℕ) (l : List ℕ) (count : ℕ) (xs : List ℕ) where
     room = h .1;
     bits = h .2;
     within = omega arith;
-    grows = grow-start xs (map (literalPart m) (sift (canonical m) (take count l))) 0
-        (omega arith) nothing-rises;
+    grows = subst (λ (k : List ℕ). Growing (length xs) (addAll (map (literalPart m) (sift (canonical m) (take count l))) k) (map (literalPart m) (sift (canonical m) (take count l))) xs 0)
+        (held-none xs) (grow-start xs (map (literalPart m) (sift (canonical m) (take count l))) 0 (omega arith) (no-runs xs));
   }
 
   module _ (ys : List ℕ) (n p : ℕ) (s : Collecting m l count xs ys n p) where
@@ -84,8 +85,8 @@ module _ (m : ℕ) (l : List ℕ) (count : ℕ) (xs : List ℕ) where
         go (yes h) = omega (arith, s .grows .long)
         go (no h) = absurd (let o = s .grows .over (omega (arith, h)) in omega (arith, parts-few m l count, s .room))
 
-    pub collecting-pre : (n ≤ length ys) × Rising (take n ys)
-    collecting-pre = (collecting-fits, s .grows .rises (omega (arith, collecting-fits, s .grows .long)))
+    pub collecting-pre : (n ≤ length ys) × Runs n ys
+    collecting-pre = (collecting-fits, s .grows .runs (omega (arith, collecting-fits, s .grows .long)))
 
     pub collecting-long : length ys ≡ length xs
     collecting-long = s .grows .long
@@ -104,8 +105,8 @@ module _ (m : ℕ) (l : List ℕ) (count : ℕ) (xs : List ℕ) where
           (part h ∙ ap (λ (x : Bool). cond x (getD l p 0 ∷ sift (canonical m) (drop (p + 1) (take count l))) (sift (canonical m) (drop (p + 1) (take count l)))) (sym e ∙ y)) (s .grows);
     }
 
-    pub collecting-keep : (b : Bool) (x r : ℕ) (out : List ℕ) → p < count → b ≡ canonical m (getD l p 0) → b ≡ true → x ≡ literalPart m (getD l p 0) → Inserted ys out (insertInto x (take n ys)) r
-        → Collecting m l count xs out r (p + 1)
+    pub collecting-keep : (b : Bool) (x r : ℕ) (out : List ℕ) → p < count → b ≡ canonical m (getD l p 0) → b ≡ true → x ≡ literalPart m (getD l p 0)
+        → Gathered (length ys) (insertInto x (held n ys)) out r → Collecting m l count xs out r (p + 1)
     unfolding addAll
     collecting-keep b x r out h e y v g = record {
       inside = s .inside;
@@ -116,16 +117,16 @@ module _ (m : ℕ) (l : List ℕ) (count : ℕ) (xs : List ℕ) where
           (map (literalPart m) (sift (canonical m) (drop (p + 1) (take count l)))) ys out n r (s .grows)
           (ap (map (literalPart m)) (part h ∙ ap (λ (z : Bool). cond z (getD l p 0 ∷ sift (canonical m) (drop (p + 1) (take count l))) (sift (canonical m) (drop (p + 1) (take count l)))) (sym e ∙ y))
           ∙ ap (λ (z : ℕ). z ∷ map (literalPart m) (sift (canonical m) (drop (p + 1) (take count l)))) (sym v))
-          (omega (arith, collecting-fits, s .grows .long)) (inserted-grown ys out (insertInto x (take n ys)) r g);
+          (omega (arith, collecting-fits, s .grows .long)) g;
     }
 
-    pub collecting-done : count ≤ p → Prefix (partsOf m (take count l)) ys n
-    collecting-done h =
+    pub collecting-done : (out : List ℕ) → count ≤ p → Settled ys n out → Prefix (partsOf m (take count l)) out n
+    collecting-done out h o =
         let d = grow-done (length xs) (partsOf m (take count l)) (map (literalPart m) (sift (canonical m) (drop p (take count l)))) ys n (s .grows)
         (ap (map (literalPart m)) (ap (sift (canonical m)) (no-more l count p (s .inside) h) ∙ sift-none (canonical m))) in
         let f : length (partsOf m (take count l)) ≤ length xs = omega (arith, parts-few m l count, s .room) in
         let q = d .count ∙ size-fits (length xs) (partsOf m (take count l)) f in
-        record { count = q; words = d .words f }
+        record { count = q; words = o .words ∙ d .words f }
 
 -- ---- the list written
 

@@ -23,7 +23,7 @@ order x y = go (decLt x y) (decLt y x)
     go (no n) (yes q) = inr (inr q)
     go (no n) (no m) = inr (inl (omega (arith, n, m)))
 
-insert-lt : (x y : ℕ) (l : List ℕ) → x < y → insertInto x (y ∷ l) ≡ x ∷ y ∷ l
+pub insert-lt : (x y : ℕ) (l : List ℕ) → x < y → insertInto x (y ∷ l) ≡ x ∷ y ∷ l
 unfolding insertInto
 insert-lt x y l h = rw (lt-ltb x y h)
 
@@ -31,15 +31,15 @@ insert-eq : (x y : ℕ) (l : List ℕ) → x ≡ y → insertInto x (y ∷ l) �
 unfolding insertInto
 insert-eq x y l h = rw (le-ltb x y (omega arith), eq-eqb x y h)
 
-insert-gt : (x y : ℕ) (l : List ℕ) → y < x → insertInto x (y ∷ l) ≡ y ∷ insertInto x l
+pub insert-gt : (x y : ℕ) (l : List ℕ) → y < x → insertInto x (y ∷ l) ≡ y ∷ insertInto x l
 unfolding insertInto
 insert-gt x y l h = rw (le-ltb x y (omega arith), ne-eqb x y (λ e. omega arith))
 
-rank-lt : (x y : ℕ) (l : List ℕ) → y < x → rank x (y ∷ l) ≡ suc (rank x l)
+pub rank-lt : (x y : ℕ) (l : List ℕ) → y < x → rank x (y ∷ l) ≡ suc (rank x l)
 unfolding rank
 rank-lt x y l h = rw (lt-ltb y x h)
 
-rank-ge : (x y : ℕ) (l : List ℕ) → x ≤ y → rank x (y ∷ l) ≡ 0
+pub rank-ge : (x y : ℕ) (l : List ℕ) → x ≤ y → rank x (y ∷ l) ≡ 0
 unfolding rank
 rank-ge x y l h = rw (le-ltb y x h)
 
@@ -76,6 +76,16 @@ insert-rising x (y ∷ l) r = go (order x y) (insert-rising x l (r .1))
     go (inl h) ih = subst Rising (sym (insert-lt x y l h)) ((λ z m. ⊎-elim (λ e. omega arith) (λ i. lt-trans h (r .0 z i)) m), r)
     go (inr (inl h)) ih = subst Rising (sym (insert-eq x y l h)) r
     go (inr (inr h)) ih = subst Rising (sym (insert-gt x y l h)) ((λ z m. ⊎-elim (λ e. omega arith) (λ i. r .0 z i) (in-insert x z l m)), ih)
+
+pub insert-most : (x : ℕ) (l : List ℕ) → length (insertInto x l) ≤ length l + 1
+unfolding insertInto
+insert-most x [] = omega arith
+insert-most x (y ∷ l) = go (order x y) (insert-most x l)
+  where
+    go : (x < y) ⊎ ((x ≡ y) ⊎ (y < x)) → length (insertInto x l) ≤ length l + 1 → length (insertInto x (y ∷ l)) ≤ length (y ∷ l) + 1
+    go (inl h) ih = omega (arith, ap length (insert-lt x y l h))
+    go (inr (inl h)) ih = omega (arith, ap length (insert-eq x y l h))
+    go (inr (inr h)) ih = omega (arith, ap length (insert-gt x y l h))
 
 pub insert-longer : (x : ℕ) (l : List ℕ) → length l ≤ length (insertInto x l)
 unfolding insertInto

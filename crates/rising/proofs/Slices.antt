@@ -91,7 +91,7 @@ pub stands-out : (xs : List ℕ) (count at x : ℕ) → count ≤ at → false �
 unfolding standsAt
 stands-out xs count at x h = rw (le-ltb at count h)
 
-stands-yes : (xs : List ℕ) (count at x : ℕ) → standsAt xs count at x ≡ true → (at < count) × (getD xs at 0 ≡ x)
+pub stands-yes : (xs : List ℕ) (count at x : ℕ) → standsAt xs count at x ≡ true → (at < count) × (getD xs at 0 ≡ x)
 stands-yes xs count at x e = go (decLt at count)
   where
     go : Dec (at < count) → (at < count) × (getD xs at 0 ≡ x)
@@ -128,7 +128,7 @@ module _ (xs : List ℕ) (count x at : ℕ) (pre : (count ≤ length xs) × Risi
     absent = rw e (insert-absent x (take count xs) (λ h k. stands-no xs count at x (sym s ∙ f) (omega (arith, long))
         (sym (getD-take count xs at 0 (omega (arith, long))) ∙ ap (λ (i : ℕ). getD (take count xs) i 0) e ∙ k)))
 
-    one-more : length (insertInto x (take count xs)) ≡ count + 1
+    pub one-more : length (insertInto x (take count xs)) ≡ count + 1
     one-more = ap length absent ∙ simp (length-append, length-drop, length-take) (omega (arith, place-within, long))
 
     pub inserted-over : count ≡ length xs → Inserted xs xs (insertInto x (take count xs)) (count + 1)

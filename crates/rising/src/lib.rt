@@ -1,8 +1,9 @@
-// Rising sets of 64-bit words in lent slices.
+// Sets of 64-bit words in lent slices, rising in one run or in two.
 ghost use mathlib.Core.Path.{_≡_};
-ghost use Prim.Native.Nat.{_≤_, _<_};
-ghost use lib.ListN.{length, take};
+ghost use Prim.Native.Nat.{_+_, _≤_, _<_};
+ghost use lib.ListN.{length, take, drop};
 ghost use Rattle.sets.specs.Lists.{Rising};
+ghost use Rattle.rising.specs.Growing.{held, firstRun, Split, Runs, Gathered, From, Settled, Holds, Behind, aboveAt};
 ghost use Rattle.rising.specs.RisingSets.{insertInto, rank};
 ghost use Rattle.rising.specs.Slices.{opened, standsAt, Inserted};
 
@@ -48,7 +49,7 @@ fn stands(set: &[u64], members: usize, at: usize, x: u64) -> bool
 }
 
 // Puts `x` into the set in the first `members` places; gives the number of members, or one more than there are places where it would be one too many.
-pub fn insert(set: &mut [u64], members: usize, x: u64) -> usize
+fn insert(set: &mut [u64], members: usize, x: u64) -> usize
     requires { ⌜ (members ≤ length (now set)) × Rising (take members (now set)) ⌝ }
     ensures { λ r. ⌜ Inserted (now (set .entry)) (now (set .exit)) (insertInto x (take members (now (set .entry)))) r ⌝ }
 {
@@ -62,4 +63,122 @@ pub fn insert(set: &mut [u64], members: usize, x: u64) -> usize
     open(set, at, members);
     set[at] = x;
     members + 1
+}
+
+// ---- a set in two runs
+// How many of so many members stand in the first run.
+fn first_run(members: usize) -> usize
+    ensures { λ r. ⌜ (r ≡ firstRun members) × (r ≤ members) × (members ≤ r + 255) ⌝ }
+{
+    members - members % 256
+}
+
+// Copies `k` words from the place `m` on.
+fn keep(set: &[u64], m: usize, k: usize, tail: &mut [u64; 256])
+    requires { ⌜ (m + k ≤ length (now set)) × (k ≤ 256) × (length (now tail) ≡ 256) ⌝ }
+    ensures { λ r. ⌜ (length (now (tail .exit)) ≡ 256) × (take k (now (tail .exit)) ≡ take k (drop m (now (set .entry)))) ⌝ }
+{
+    let mut q: usize = 0;
+    while q < k {
+        tail[q] = set[m + q];
+        q += 1;
+    }
+}
+
+// Whether the last of the first `p` words is above `x`.
+fn above(set: &[u64], p: usize, x: u64) -> bool
+    requires { ⌜ p ≤ length (now set) ⌝ }
+    ensures { λ r. ⌜ r ≡ aboveAt (now (set .entry)) p x ⌝ }
+{
+    if 0 < p {
+        return x < set[p - 1];
+    }
+    false
+}
+
+// Merges the first `m` words and the `k` words behind them, from the greatest word down.
+fn merge(set: &mut [u64], m: usize, k: usize)
+    requires { ⌜ (m + k ≤ length (now set)) × (k ≤ 256) × Split m k (now set) ⌝ }
+    ensures { λ r. ⌜ Settled (now (set .entry)) (m + k) (now (set .exit)) ⌝ }
+{
+    let mut tail = [0u64; 256];
+    keep(set, m, k, &mut tail);
+    let mut p = m;
+    let mut q = k;
+    while 0 < q {
+        let x = tail[q - 1];
+        if above(set, p, x) {
+            set[p + q - 1] = set[p - 1];
+            p -= 1;
+        } else {
+            set[p + q - 1] = x;
+            q -= 1;
+        }
+    }
+}
+
+// Whether `x` stands in the rising first `m` places.
+fn holds(set: &[u64], m: usize, x: u64) -> bool
+    requires { ⌜ (m ≤ length (now set)) × Rising (take m (now set)) ⌝ }
+    ensures { λ r. ⌜ Holds (take m (now (set .entry))) x r ⌝ }
+{
+    let at = place(set, m, x);
+    stands(set, m, at, x)
+}
+
+// Puts `x` into the rising `k` words from the place `m` on; gives their number, or one more than there are places from `m` on.
+fn insert_behind(set: &mut [u64], m: usize, k: usize, x: u64) -> usize
+    requires { ⌜ (m + k ≤ length (now set)) × Rising (take k (drop m (now set))) ⌝ }
+    ensures { λ r. ⌜ Behind (now (set .entry)) m k x (now (set .exit)) r ⌝ }
+{
+    insert(&mut set[m..], k, x)
+}
+
+// Puts `x` into the set in the first `members` places; gives the number of members, or one more than there are places where it would be one too many.
+pub fn add(set: &mut [u64], members: usize, x: u64) -> usize
+    requires { ⌜ (members ≤ length (now set)) × Runs members (now set) ⌝ }
+    ensures { λ r. ⌜ Gathered (length (now (set .entry))) (insertInto x (held members (now (set .entry)))) (now (set .exit)) r ⌝ }
+{
+    let m = first_run(members);
+    if holds(set, m, x) {
+        return members;
+    }
+    let t = insert_behind(set, m, members - m, x);
+    if t < 256 {
+        return m + t;
+    }
+    if set.len() < m + t {
+        return m + t;
+    }
+    merge(set, m, t);
+    m + t
+}
+
+// Brings the members into rising order.
+pub fn settle(set: &mut [u64], members: usize)
+    requires { ⌜ (members ≤ length (now set)) × Runs members (now set) ⌝ }
+    ensures { λ r. ⌜ Settled (now (set .entry)) members (now (set .exit)) ⌝ }
+{
+    let m = first_run(members);
+    merge(set, m, members - m);
+}
+
+// The place of the least member that is not below `x`, or `members` where there is none.
+pub fn least_from(set: &[u64], members: usize, x: u64) -> usize
+    requires { ⌜ (members ≤ length (now set)) × Runs members (now set) ⌝ }
+    ensures { λ r. ⌜ From (now (set .entry)) members x r ⌝ }
+{
+    let m = first_run(members);
+    let a = place(set, m, x);
+    let b = m + place(&set[m..], members - m, x);
+    if a == m {
+        return b;
+    }
+    if b == members {
+        return a;
+    }
+    if set[a] < set[b] {
+        return a;
+    }
+    b
 }

@@ -46,6 +46,18 @@ pub below-rising : (n : ℕ) → Rising (below n)
 unfolding below tabulate
 below-rising n = upFrom-rising n 0
 
+-- of two rising lists the one whose members are all in the other is no longer
+pub rising-shorter : (b a : List ℕ) → Rising a → Rising b → ((z : ℕ) → z ∈ a → z ∈ b) → length a ≤ length b
+unfolding Rising
+rising-shorter b [] r s f = omega arith
+rising-shorter [] (x ∷ a) r s f = absurd (f x (inl refl))
+rising-shorter (y ∷ b) (x ∷ a) r s f = ⊎-elim
+    (λ (e : x ≡ y). let h = rising-shorter b a (r .1) (s .1) (λ z m. ⊎-elim (λ q. absurd (let p = r .0 z m in omega arith)) (λ k. k) (f z (inr m))) in omega arith)
+    (λ (k : x ∈ b).
+    let l = s .0 x k in
+    let h = rising-shorter b (x ∷ a) r (s .1) (λ z m. ⊎-elim (λ q. absurd (⊎-elim (λ v. omega arith) (λ v. let p = r .0 z v in omega arith) m)) (λ v. v) (f z m)) in omega arith)
+    (f x (inl refl))
+
 -- ---- first parts
 pub begins-append : (a b : List ℕ) → Begins a (a ++ b)
 unfolding Begins

@@ -4,3 +4,4 @@ pub mod Run
 pub mod Minimal
 pub mod Iterating
 pub mod Taking
+pub mod Closing

@@ -128,10 +128,21 @@ module _ (Q : List WordRule) (room k : ℕ) (r : Reached Q room k) where
   unfolding finalStage ending
   final-is t = ap (λ (n : ℕ). stage Q (suc n)) (rests t)
 
+  -- the run rests no earlier
+  pub rests-from : k ≤ resting Q
+  unfolding resting
+  rests-from = least-late (λ i. same (stage Q i) (stage Q (suc i))) latestRest k (r .most) (λ j b. r .early j b)
+
   -- the next stage is too large, and the run would come to it
   pub crowds : room < length (stage Q (suc k)) → crowded Q room ≡ true
-  unfolding crowded ending resting
-  crowds h = some-hit (λ i. ltb room (length (stage Q i))) (suc (resting Q)) (suc k) (omega (arith, late)) (lt-ltb room (length (stage Q (suc k))) h)
-    where
-      late : k ≤ resting Q
-      late = least-late (λ i. same (stage Q i) (stage Q (suc i))) latestRest k (r .most) (λ j b. r .early j b)
+  unfolding crowded ending
+  crowds h = some-hit (λ i. ltb room (length (stage Q i))) (suc (resting Q)) (suc k) (omega (arith, rests-from)) (lt-ltb room (length (stage Q (suc k))) h)
+
+-- the last stage is too large; none is
+pub crowded-last : (Q : List WordRule) (room : ℕ) → room < length (finalStage Q) → crowded Q room ≡ true
+unfolding crowded finalStage
+crowded-last Q room h = some-hit (λ i. ltb room (length (stage Q i))) (ending Q) (ending Q) (omega arith) (lt-ltb room (length (stage Q (ending Q))) h)
+
+pub crowded-not : (Q : List WordRule) (room : ℕ) → ((i : ℕ) → i ≤ ending Q → length (stage Q i) ≤ room) → crowded Q room ≡ false
+unfolding crowded
+crowded-not Q room f = some-miss (λ i. ltb room (length (stage Q i))) (ending Q) (λ i l. le-ltb room (length (stage Q i)) (f i l))

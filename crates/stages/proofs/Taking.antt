@@ -6,14 +6,15 @@ use mathlib.Core.Bool.{Bool, true, false, cond}
 use mathlib.Core.List.{List}
 use mathlib.Core.Path.{_≡_, refl, sym, ap, _∙_, subst}
 use native.Mathlib.Omega.{arith}
-use Rattle.sets.specs.Lists.{sift}
+use Rattle.sets.specs.Lists.{sift, Rising}
 use Rattle.sets.proofs.Tests.{clash}
 use Rattle.rising.specs.Slices.{Prefix}
 use Rattle.operator.specs.Operator.{WordRule, stage}
 use Rattle.minimal.specs.Minimal.{satisfies, leastIn, minimals}
 use Rattle.minimal.proofs.Selecting.{sift-short}
-use Rattle.stages.specs.Run.{finalStage, crowded, Iterated, Iterating}
+use Rattle.stages.specs.Run.{finalStage, ending, crowded, Iterated, Iterating}
 use Rattle.stages.specs.Minimal.{minimalModels, Minimals}
+use Rattle.stages.proofs.Bridge.{stage-rising}
 use Rattle.stages.proofs.Run.{crowded-start, reached-start}
 
 -- ---- the minimal models of the stage that ends the run
@@ -34,6 +35,15 @@ module _ (Q : List WordRule) (room : ℕ) where
       go : (c : Bool) → crowded Q room ≡ c → Minimals Q room r a b
       go true c = too-large a b r c (s .count ∙ rw c) (s .first-length) (s .second-length)
       go false c = absurd (omega (arith, s .fits c))
+
+  -- the stage that ends the run rises
+  pub final-rising : (a b : List ℕ) (r : ℕ) → Iterated Q room r a b → r ≤ room → Rising (take r a)
+  unfolding finalStage
+  final-rising a b r s h = go (crowded Q room) refl
+    where
+      go : (c : Bool) → crowded Q room ≡ c → Rising (take r a)
+      go true c = absurd (omega (arith, s .count ∙ ap (λ (x : Bool). cond x (room + 1) (length (finalStage Q))) c))
+      go false c = subst Rising (sym (s .in-first c)) (stage-rising Q (ending Q))
 
   pub minimals-are : (a b out kept : List ℕ) (r n : ℕ) → Iterated Q room r a b → r ≤ room
       → Prefix (minimals (sift (satisfies Q) (take r a))) out n → length out ≡ length a → length kept ≡ length b → Minimals Q room n out kept

@@ -5,7 +5,7 @@ use borrow.Author.Needs.{needs}
 use borrow.Fn.Kinds.{In}
 use borrow.Fn.PlainCycle.{Measures, is, falls, and}
 use Rattle.sets.proofs.Branches.{rest-less}
-use Rattle.heads.proofs.Scanning.{scan-rises, scan-infeasible, scan-one, scan-over, scan-both}
+use Rattle.heads.proofs.Scanning.{scan-runs, scan-infeasible, scan-one, scan-over, scan-both}
 use Rattle.heads.proofs.scan.Reads as scan
 use Rattle.heads.proofs.scan.Kinds as scan-kinds
 use Rattle.heads.proofs.+scan.Lts-scan as lts
@@ -57,7 +57,7 @@ pub +scan-spec : {M : Type 1} → statement M
     let p = s .pre .1 in
     let long = c .before .before .if3 .left in (
       omega (arith, s .pre .0, rest-less (s .args .free) (e .highest .result) (e .highest .ensures)),
-      (p .0, long, scan-rises _ _ _ _ _ _ (e .highest .ensures) (p .2) (p .1) _ _ (g .scan .ensures) long),
+      (p .0, long, scan-runs _ _ _ _ _ _ (e .highest .ensures) (p .2) (p .1) _ _ (g .scan .ensures) long),
     ))
     (λ c. search needs)
     (λ c. search scan-both)

@@ -14,16 +14,16 @@ abbrev μ-loop : tie.MeasureT-loop
 -- a canonical word: its literal part was put into the set
 loop-again : tie.Need-loop-again Inv-loop μ-loop
 loop-again c =
-    let at-insert = c .before .before in
-    let at-part = at-insert .before in
+    let at-add = c .before .before in
+    let at-part = at-add .before in
     let at-branch = at-part .before .before .before in
     let at-test = at-branch .before in
     let at-body = at-test .before .before in
     let at-loop = at-body .before .loop in
     collecting-keep _ _ _ _ (at-loop .set) (at-loop .n) (at-loop .p) (at-loop .inv) _ _ _ _
-    (at-body .loop-test .taken) (at-test .is-canonical .ensures) (at-branch .if1 .taken) (at-part .low-part .ensures) (at-insert .insert .ensures)
+    (at-body .loop-test .taken) (at-test .is-canonical .ensures) (at-branch .if1 .taken) (at-part .low-part .ensures) (at-add .add .ensures)
 
 pub collect-spec : {M : Type 1} → statement M
 collect-spec = tie.close (tie.spec Inv-loop μ-loop (λ c. search collecting-start) (λ c. search needs) (λ c. search needs) (λ c. search needs)
     (λ c. search needs) (λ c. search needs) (λ c. search needs) (λ c. search collecting-pre) (λ c. search needs) (λ c. search needs) loop-again
-    (λ c. search needs) (λ c. search needs) (λ c. search collecting-skip) (λ c. search collecting-long) (λ c. search collecting-done))
+    (λ c. search needs) (λ c. search needs) (λ c. search collecting-skip) (λ c. search collecting-pre) (λ c. search (collecting-long, needs)) (λ c. search collecting-done))

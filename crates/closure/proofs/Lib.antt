@@ -1,0 +1,3 @@
+-- Laws of what a member gives, and of the routine that closes a set.
+pub mod Gives
+pub mod Closing
