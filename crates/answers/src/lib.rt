@@ -1,4 +1,5 @@
 // What a call answered, as three numbers, whatever the call, and what is expected of it: definitions and laws, and no function.
+#![tactic(auto)]
 
 // As an expected number, any.
 pub const ANY: u64 = 18_446_744_073_709_551_615;
@@ -10,7 +11,7 @@ pub const PLACES: usize = 4096;
 pub const FREE: u32 = 4_294_967_295;
 
 // An outcome with two numbers: models written and nodes visited, or what the outcome names.
-#[derive(Drop)]
+#[derive(Clone, Copy)]
 pub struct Answer {
     pub outcome: u64,
     pub first: u64,
@@ -18,7 +19,7 @@ pub struct Answer {
 }
 
 // What is expected, and what was found in its place.
-#[derive(Drop)]
+#[derive(Clone, Copy)]
 pub struct Difference {
     pub expected: Answer,
     pub found: Answer,

@@ -1,4 +1,6 @@
 // Whether an answer is as expected, and where a slice that was lent holds another word than it should.
+#![tactic(auto)]
+
 ghost use Rattle.std.specs.Prelude.{◌≡◌, get_or};
 ghost use Rattle.answers.specs.Answers.{allowing, agreeing, held_at, first_other, difference_of};
 

@@ -1,4 +1,6 @@
 // What each call answers, as three numbers.
+#![tactic(auto)]
+
 ghost use Rattle.std.specs.Prelude.{◌≡◌};
 ghost use Rattle.answers.specs.Answers.{answer, of_verdict, of_outcome, of_written, of_checked, of_held, of_cleared};
 

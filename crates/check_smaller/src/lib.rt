@@ -1,4 +1,6 @@
 // The least smaller word that satisfies the reduct.
+#![tactic(auto)]
+
 ghost use Rattle.std.specs.Prelude.{◌≡◌, ◌≤◌};
 ghost use Rattle.sets.specs.Lists.{tabulate};
 ghost use Rattle.sets.specs.Words.{next_subset};

@@ -1,4 +1,6 @@
 // The check of one candidate against Definition 3.1.
+#![tactic(auto)]
+
 ghost use Rattle.std.specs.Prelude.{◌≡◌, true};
 ghost use Rattle.program.specs.Clauses.{rows};
 ghost use Rattle.program.specs.Days.{of_day, clauses};

@@ -1,4 +1,6 @@
 // What `check` says of a table that was read, at the front of a slice with room for it.
+#![tactic(auto)]
+
 ghost use Rattle.std.specs.Prelude.{◌≤◌, length};
 ghost use Rattle.lists.specs.Bytes.{Wrote};
 ghost use Rattle.wording.specs.Printed.{numbered};

@@ -1,4 +1,6 @@
 // What the clause lines of a text say: each line is read once, and tests and table are taken from what it says.
+#![tactic(auto)]
+
 ghost use Rattle.std.specs.Prelude.{◌≡◌, map, ◌≤◌, length, drop};
 ghost use Rattle.lists.specs.Bytes.{ended};
 ghost use Rattle.text.specs.Lines.{is_dated, names};
@@ -10,7 +12,7 @@ use text::NEWLINE;
 
 // What all clause lines say: whether some line breaks the form, whether the values of some line are only zeros, whether the first day of some line is after its last,
 // and the columns of words and days.
-#[derive(Drop)]
+#[derive(Clone, Copy)]
 pub struct ClauseLines {
     pub broken: bool,
     pub zeros: bool,

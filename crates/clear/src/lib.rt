@@ -1,4 +1,6 @@
 // Document 02, U5: the separate place is cleared: the held clause is kept as the last one, or let go.
+#![tactic(auto)]
+
 ghost use Rattle.std.specs.Prelude.{◌≡◌};
 ghost use Rattle.held.specs.Clearing.{clearing, keep_of, release_of};
 

@@ -1,4 +1,5 @@
 // The rows of a program by column: for each literal and each part the set of the rows that have it there, bit k for row k: definitions and laws, and no function.
+#![tactic(auto)]
 
 // The most literals that there are.
 pub const LITERALS: usize = 2 * program::MOST_ATOMS;

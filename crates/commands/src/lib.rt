@@ -1,4 +1,6 @@
 // What is printed on a book: one call for all words of the command line, and the report.
+#![tactic(auto)]
+
 ghost use Rattle.say_words.specs.Printing.{Prints};
 ghost use Rattle.say_words.specs.Commands.{output, report_of};
 

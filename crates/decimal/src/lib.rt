@@ -1,10 +1,12 @@
 // Decimal numbers: read up to a bound, measured, and put at the front of a slice.
+#![tactic(auto)]
+
 ghost use Rattle.std.specs.Prelude.{◌≡◌, ◌+◌, ◌≤◌, length};
 ghost use Rattle.lists.specs.Bytes.{Wrote};
 ghost use Rattle.decimal.specs.Decimal.{decimal, digit_of, goes_on, parsed_of};
 
 // The number that a text is, or that it is none.
-#[derive(Drop)]
+#[derive(Clone, Copy)]
 pub enum Parsed {
     Number(u64),
     Nothing,

@@ -2,6 +2,7 @@
 use crate::saying;
 use answers::{Answer, FREE, PLACES};
 use program::Program;
+use std::io;
 
 // The day on which every table is tried.
 pub const DAY: u16 = 0;
@@ -40,14 +41,20 @@ fn fixpoint(p: Program, list: &mut [u32], one: usize, other: usize) -> Answer {
 }
 
 // Whether the fixpoint answers as expected with so much room in each working slice; a refusal leaves the list as it was.
-pub fn fixpoint_ends(p: Program, one: usize, other: usize, expected: Answer) -> bool {
+pub fn fixpoint_ends(
+    rt: &impl Print,
+    p: Program,
+    one: usize,
+    other: usize,
+    expected: Answer,
+) -> io::Result<bool> {
     let mut list = [FREE; PLACES];
     let found = fixpoint(p, &mut list, one, other);
-    if !saying::agree(answers::FIXPOINT, expected, found) {
-        return false;
+    if !saying::agree(rt, answers::FIXPOINT, expected, found)? {
+        return Ok(false);
     }
     if answers::COMPLETE <= expected.outcome {
-        return true;
+        return Ok(true);
     }
-    saying::is_untouched(&list)
+    saying::is_untouched(rt, &list)
 }

@@ -1,6 +1,8 @@
 // Tries from outside what the engine refuses, at both sides of each edge: a line for each kind of record says how many were tried and how many agree.
 // What is asked of a record stands in a file for each kind.
 // The first disagreement is printed with both answers and its record's label, and ends the program.
+#![tactic(auto)]
+
 mod asking;
 mod refusals;
 mod rooms;
@@ -8,11 +10,14 @@ mod saying;
 mod tables;
 mod vocabulary;
 
-ghost use Rattle.std.specs.Prelude.{◌<◌, ◌≤◌, length};
-ghost use Rattle.io.specs.Counts.{IsPrefixLen};
+ghost use Rattle.std.specs.Prelude.{◌<◌, ◌≤◌, length, IfOk};
+ghost use Rattle.std.specs.Io.{ReadsAtMost};
+
+use std::io;
+use std::rt::Files;
 
 // What is refused, a file of records for each.
-#[derive(Drop)]
+#[derive(Clone, Copy)]
 enum Edge {
     Refusals,
     Tables,
@@ -20,101 +25,108 @@ enum Edge {
     Rooms,
 }
 
-fn ask(edge: Edge, text: &[u8], line: &[u8]) -> bool {
+fn ask(rt: &impl Print, edge: Edge, text: &[u8], line: &[u8]) -> io::Result<bool> {
     let first = records::number_at(line, 0);
     match edge {
-        Edge::Refusals => refusals::agrees(text, first.value),
-        Edge::Tables => tables::agrees(text, line),
-        Edge::Vocabulary => vocabulary::agrees(text, first.value),
-        Edge::Rooms => rooms::agrees(text, first.value),
+        Edge::Refusals => refusals::agrees(rt, text, first.value),
+        Edge::Tables => tables::agrees(rt, text, line),
+        Edge::Vocabulary => vocabulary::agrees(rt, text, first.value),
+        Edge::Rooms => rooms::agrees(rt, text, first.value),
     }
 }
 
-fn is_answered(edge: Edge, whole: bool, text: &[u8], line: &[u8]) -> bool {
+fn is_answered(
+    rt: &impl Print,
+    edge: Edge,
+    whole: bool,
+    text: &[u8],
+    line: &[u8],
+) -> io::Result<bool> {
     if whole {
-        return ask(edge, text, line);
+        return ask(rt, edge, text, line);
     }
-    saying::is_enough(answers::RECORD, 1, 0)
+    saying::is_enough(rt, answers::RECORD, 1, 0)
 }
 
 // Where the next record begins; 0 where this one disagrees, as one does that the file's end cuts.
-fn behind_record(edge: Edge, file: &[u8], at: usize) -> usize
+fn behind_record(rt: &impl Print, edge: Edge, file: &[u8], at: usize) -> io::Result<usize>
     requires { at < length file.now }
-    ensures { result ≤ length file.now }
+    ensures { IfOk result (λ next. next ≤ length file.now) }
 {
     let r = records::record_at(file, at);
     let text = r.text;
     let text_end = r.text_end;
     let line = r.line;
     let line_end = r.line_end;
-    if is_answered(edge, r.whole, &file[text..text_end], &file[line..line_end]) {
-        return r.next;
+    if is_answered(
+        rt,
+        edge,
+        r.whole,
+        &file[text..text_end],
+        &file[line..line_end],
+    )? {
+        return Ok(r.next);
     }
     let label_end = r.label_end;
-    saying::print(b", at ");
-    saying::print(&file[at..label_end]);
-    saying::print(b"\n");
-    0
+    saying::print(rt, b", at ")?;
+    saying::print(rt, &file[at..label_end])?;
+    saying::print(rt, b"\n")?;
+    Ok(0)
 }
 
 // How many records agree; none where one does not.
-fn count_agreeing(edge: Edge, file: &[u8]) -> u64 {
+fn count_agreeing(rt: &impl Print, edge: Edge, file: &[u8]) -> io::Result<u64> {
     let mut at: usize = 0;
     let mut agree: u64 = 0;
     while at < file.len() {
-        let next = behind_record(edge, file, at);
+        let next = behind_record(rt, edge, file, at)?;
         if next <= at {
-            return 0;
+            return Ok(0);
         }
         agree = std::num::wrapping_add_u64(agree, 1);
         at = next;
     }
-    agree
+    Ok(agree)
 }
 
 // The bytes of the file at the start of `file`; their number.
-fn fill(path: &[u8], file: &mut [u8]) -> usize
-    ensures { IsPrefixLen result file.new }
+fn fill(files: &impl Files, path: &str, file: &mut [u8]) -> io::Result<usize>
+    ensures { ReadsAtMost result file.new }
 {
-    let descriptor = os::open_read(path);
-    if descriptor < 0 {
-        os::fail(path);
-    }
-    let count = io::read_full(descriptor, file);
-    libc::close(descriptor);
-    count
+    inputs::read_file(files, path, file)
 }
 
 // The largest file, the refusals, has 246,648 bytes.
 // How many records of the file agree, read into a slice that is lent for it.
-fn count_in(path: &[u8], edge: Edge, file: &mut [u8]) -> u64 {
-    let n = fill(path, file);
-    count_agreeing(edge, &file[..n])
+fn count_in(rt: &(impl Files + Print), path: &str, edge: Edge, file: &mut [u8]) -> io::Result<u64> {
+    let n = fill(rt, path, file)?;
+    count_agreeing(rt, edge, &file[..n])
 }
 
-fn count(path: &[u8], edge: Edge) -> u64 {
+fn count(rt: &(impl Files + Print), path: &str, edge: Edge) -> io::Result<u64> {
     let mut file = [0u8; 262144];
-    count_in(path, edge, &mut file)
+    count_in(rt, path, edge, &mut file)
 }
 
-fn is_tried(path: &[u8], edge: Edge) -> bool {
-    let agree = count(path, edge);
-    saying::print(path);
+fn is_tried(rt: &(impl Files + Print), path: &str, edge: Edge) -> io::Result<bool> {
+    let agree = count(rt, path, edge)?;
+    saying::print(rt, path.as_bytes())?;
     if agree == 0 {
-        saying::print(b": stopped\n");
-        return false;
+        saying::print(rt, b": stopped\n")?;
+        return Ok(false);
     }
-    saying::print_number(b": ", agree);
-    saying::print_number(b" tried, ", agree);
-    saying::print(b" agree\n");
-    true
+    saying::print_number(rt, b": ", agree)?;
+    saying::print_number(rt, b" tried, ", agree)?;
+    saying::print(rt, b" agree\n")?;
+    Ok(true)
 }
 
-fn main() {
-    if is_tried(b"refusals", Edge::Refusals)
-        && is_tried(b"tables", Edge::Tables)
-        && is_tried(b"vocabulary", Edge::Vocabulary)
+fn main(rt: HostRuntime) -> io::Result<()> {
+    if is_tried(&rt, "refusals", Edge::Refusals)?
+        && is_tried(&rt, "tables", Edge::Tables)?
+        && is_tried(&rt, "vocabulary", Edge::Vocabulary)?
     {
-        is_tried(b"rooms", Edge::Rooms);
+        is_tried(&rt, "rooms", Edge::Rooms)?;
     }
+    Ok(())
 }

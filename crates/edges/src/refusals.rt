@@ -1,6 +1,7 @@
 // A text is refused by the number, with the all-zero table, or taken where the number is 0.
 use crate::saying;
 use program::Program;
+use std::io;
 
 // Whether no name and no clause has anything at the place `k`.
 fn is_zero_at(p: Program, k: usize) -> bool {
@@ -36,11 +37,11 @@ fn one_if(b: bool) -> u64 {
     if b { 1 } else { 0 }
 }
 
-pub fn agrees(text: &[u8], refusal: u64) -> bool {
+pub fn agrees(rt: &impl Print, text: &[u8], refusal: u64) -> io::Result<bool> {
     let read = reader::read_program(text);
     let verdict = read.verdict;
     let p = read.program;
     let found = answers_made::of_verdict(verdict, one_if(is_zero_table(p)));
     let expected = answers_made::made(refusal, one_if(refusal != 0), 0);
-    saying::agree(answers::READER, expected, found)
+    saying::agree(rt, answers::READER, expected, found)
 }

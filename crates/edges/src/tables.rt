@@ -4,6 +4,7 @@ use crate::{asking, saying};
 use answers::{ANY, Answer, FREE, PLACES};
 use held::ClearAnswer;
 use program::{HeldClause, Program};
+use std::io;
 
 // What the bytes hold that are lent to the writer.
 const FREE_BYTE: u8 = 255;
@@ -144,26 +145,34 @@ fn check(p: Program) -> Answer {
     answers_made::of_checked(checker::check(p, DAY, 0), 0)
 }
 
-fn search_ends(p: Program, refused: Answer) -> bool {
+fn search_ends(rt: &impl Print, p: Program, refused: Answer) -> io::Result<bool> {
     let mut list = [FREE; PLACES];
     let a = search::search(p, DAY, ANY, &mut list);
     let outcome = a.outcome;
     let found = answers_made::of_outcome(outcome, a.written as u64, a.visited);
-    saying::agree(answers::SEARCH, refused, found) && saying::is_untouched(&list)
+    Ok(saying::agree(rt, answers::SEARCH, refused, found)? && saying::is_untouched(rt, &list)?)
 }
 
-fn write_ends(p: Program, refused: Answer) -> bool {
+fn write_ends(rt: &impl Print, p: Program, refused: Answer) -> io::Result<bool> {
     let mut out = [FREE_BYTE; 4096];
     let found = answers_made::of_written(writer::write_program(p, &mut out));
-    saying::agree(answers::WRITER, refused, found)
-        && saying::is_enough(answers::TEXT, 4096, lists::count_of(&out, FREE_BYTE) as u64)
+    Ok(
+        saying::agree(rt, answers::WRITER, refused, found)?
+            && saying::is_enough(
+                rt,
+                answers::TEXT,
+                4096,
+                lists::count_of(&out, FREE_BYTE) as u64,
+            )?,
+    )
 }
 
-fn summary_ends(p: Program, refused: Answer) -> bool {
+fn summary_ends(rt: &impl Print, p: Program, refused: Answer) -> io::Result<bool> {
     let list = [FREE; 1];
     let s = summarizer::summarize(p, &list);
     let verdict = s.verdict;
     saying::agree(
+        rt,
         answers::SUMMARY,
         refused,
         answers_made::of_verdict(verdict, 0),
@@ -196,11 +205,11 @@ fn same_held(a: HeldClause, b: HeldClause) -> bool {
 }
 
 // Whether a call gives the table back as it came.
-fn is_given_back(source: usize, p: Program, q: Program) -> bool {
+fn is_given_back(rt: &impl Print, source: usize, p: Program, q: Program) -> io::Result<bool> {
     let mut k: usize = 0;
     while k < 96 {
         if !same_at(p, q, k) {
-            return saying::is_enough(source, 97, k as u64);
+            return saying::is_enough(rt, source, 97, k as u64);
         }
         k += 1;
     }
@@ -209,43 +218,57 @@ fn is_given_back(source: usize, p: Program, q: Program) -> bool {
         & (p.dated == q.dated);
     let held = p.held;
     let other = q.held;
-    saying::is_enough(source, 1, (same & same_held(held, other)) as u64)
+    saying::is_enough(rt, source, 1, (same & same_held(held, other)) as u64)
 }
 
 // The days are reversed, which a dated table refuses by a higher number.
-fn hold_ends(p: Program, refused: Answer) -> bool {
+fn hold_ends(rt: &impl Print, p: Program, refused: Answer) -> io::Result<bool> {
     let a = hold::hold(p, 1, 0, 0, 1, 0);
     let status = a.status;
     let q = a.program;
-    saying::agree(answers::HOLD, refused, answers_made::of_held(status))
-        && is_given_back(answers::HOLD, p, q)
+    Ok(
+        saying::agree(rt, answers::HOLD, refused, answers_made::of_held(status))?
+            && is_given_back(rt, answers::HOLD, p, q)?,
+    )
 }
 
-fn clear_ends(source: usize, a: ClearAnswer, p: Program, expected: Answer) -> bool {
+fn clear_ends(
+    rt: &impl Print,
+    source: usize,
+    a: ClearAnswer,
+    p: Program,
+    expected: Answer,
+) -> io::Result<bool> {
     let status = a.status;
     let q = a.program;
-    saying::agree(source, expected, answers_made::of_cleared(status)) && is_given_back(source, p, q)
+    Ok(
+        saying::agree(rt, source, expected, answers_made::of_cleared(status))?
+            && is_given_back(rt, source, p, q)?,
+    )
 }
 
 // Whether the eight calls that take a table refuse it, with lists, counts, text and the table itself as they were.
-fn is_refused(p: Program, refused: Answer) -> bool {
-    saying::agree(answers::CHECK, refused, check(p))
-        && search_ends(p, refused)
-        && asking::fixpoint_ends(p, ROOM, ROOM, refused)
-        && write_ends(p, refused)
-        && summary_ends(p, refused)
-        && hold_ends(p, refused)
-        && clear_ends(answers::KEEP, clear::keep(p), p, refused)
-        && clear_ends(answers::RELEASE, clear::release(p), p, refused)
+fn is_refused(rt: &impl Print, p: Program, refused: Answer) -> io::Result<bool> {
+    Ok(
+        saying::agree(rt, answers::CHECK, refused, check(p))?
+            && search_ends(rt, p, refused)?
+            && asking::fixpoint_ends(rt, p, ROOM, ROOM, refused)?
+            && write_ends(rt, p, refused)?
+            && summary_ends(rt, p, refused)?
+            && hold_ends(rt, p, refused)?
+            && clear_ends(rt, answers::KEEP, clear::keep(p), p, refused)?
+            && clear_ends(rt, answers::RELEASE, clear::release(p), p, refused)?,
+    )
 }
 
 // What the check says of the empty word is no refusal.
-fn is_taken(p: Program) -> bool {
+fn is_taken(rt: &impl Print, p: Program) -> io::Result<bool> {
     let found = check(p);
     if answers::COMPLETE <= found.outcome {
-        return true;
+        return Ok(true);
     }
     saying::agree(
+        rt,
         answers::CHECK,
         answers_made::made(answers::STABLE, ANY, 0),
         found,
@@ -261,44 +284,55 @@ fn held_as(field: u64) -> u64 {
 }
 
 // Whether the table that was read is given back where what a table holds is let go, and what is held is kept.
-fn lets_go(text: &[u8], field: u64, p: Program) -> bool {
+fn lets_go(rt: &impl Print, text: &[u8], field: u64, p: Program) -> io::Result<bool> {
     let expected = answers_made::made(held_as(field), 0, 0);
     let kept = clear::keep(p);
     let status = kept.status;
-    saying::agree(answers::KEEP, expected, answers_made::of_cleared(status))
-        && clear_ends(
+    Ok(
+        saying::agree(
+            rt,
+            answers::KEEP,
+            expected,
+            answers_made::of_cleared(status),
+        )? && clear_ends(
+            rt,
             answers::RELEASE,
             clear::release(p),
             asking::table_of(text),
             expected,
-        )
+        )?,
+    )
 }
 
 // Whether another clause is refused by 16, with the table as it was.
-fn holds_one(p: Program) -> bool {
-    hold_ends(p, answers_made::made(program::ALREADY_HELD as u64, 0, 0))
+fn holds_one(rt: &impl Print, p: Program) -> io::Result<bool> {
+    hold_ends(
+        rt,
+        p,
+        answers_made::made(program::ALREADY_HELD as u64, 0, 0),
+    )
 }
 
 // What a table that is not refused says of what it holds.
-fn is_held(text: &[u8], field: u64, p: Program) -> bool {
+fn is_held(rt: &impl Print, text: &[u8], field: u64, p: Program) -> io::Result<bool> {
     if (field < 6) | (13 < field) {
-        return true;
+        return Ok(true);
     }
     if !is_in_use(field) {
-        return lets_go(text, field, p);
+        return lets_go(rt, text, field, p);
     }
-    holds_one(p) && lets_go(text, field, p)
+    Ok(holds_one(rt, p)? && lets_go(rt, text, field, p)?)
 }
 
 // The numbers are a field, a place, a value, and the refusal of the table that they make, 0 where it is not refused.
-pub fn agrees(text: &[u8], line: &[u8]) -> bool {
+pub fn agrees(rt: &impl Print, text: &[u8], line: &[u8]) -> io::Result<bool> {
     let field = records::number_at(line, 0);
     let place = records::number_at(line, field.next);
     let value = records::number_at(line, place.next);
     let refusal = records::number_at(line, value.next);
     let p = forged(text, field.value, place.value as usize, value.value);
     if refusal.value == 0 {
-        return is_taken(p) && is_held(text, field.value, p);
+        return Ok(is_taken(rt, p)? && is_held(rt, text, field.value, p)?);
     }
-    is_refused(p, answers_made::made(refusal.value, 0, 0))
+    is_refused(rt, p, answers_made::made(refusal.value, 0, 0))
 }

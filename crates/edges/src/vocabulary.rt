@@ -3,17 +3,19 @@ use crate::asking;
 use crate::asking::ROOM;
 use answers::ANY;
 use program::Outcome;
+use std::io;
 
 // The number is the refusal, 0 for none.
-pub fn agrees(text: &[u8], refusal: u64) -> bool {
+pub fn agrees(rt: &impl Print, text: &[u8], refusal: u64) -> io::Result<bool> {
     let p = asking::table_of(text);
     if refusal == 0 {
         return asking::fixpoint_ends(
+            rt,
             p,
             ROOM,
             ROOM,
             answers_made::of_outcome(Outcome::Complete, ANY, 0),
         );
     }
-    asking::fixpoint_ends(p, ROOM, ROOM, answers_made::made(refusal, 0, 0))
+    asking::fixpoint_ends(rt, p, ROOM, ROOM, answers_made::made(refusal, 0, 0))
 }

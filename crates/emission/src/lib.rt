@@ -1,4 +1,6 @@
 // Clauses put one behind the other into two slices.
+#![tactic(auto)]
+
 ghost use Rattle.std.specs.Prelude.{[], ◌∷◌};
 ghost use Rattle.emission.specs.Emit.{Emits, Places};
 

@@ -1,4 +1,6 @@
 // A word put into a set that rises in two runs.
+#![tactic(auto)]
+
 ghost use Rattle.std.specs.Prelude.{◌+◌, ◌≤◌, length, take, drop};
 ghost use Rattle.sets.specs.Lists.{Rising};
 ghost use Rattle.rising.specs.Growing.{held, Runs, Gathered, Settled, Behind};

@@ -1,4 +1,6 @@
 // Every set made of a word and one head literal of each clause whose body lies in a set.
+#![tactic(auto)]
+
 ghost use Rattle.std.specs.Prelude.{◌≡◌, ◌&&◌, ◌++◌, ◌≤◌, ltb, length};
 ghost use Rattle.std.specs.Int.Count.{ones};
 ghost use Rattle.sets.specs.Lists.{onward, tabulate};

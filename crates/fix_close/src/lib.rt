@@ -1,4 +1,6 @@
 // A set of members closed under the operator of a positive program, in one pass.
+#![tactic(auto)]
+
 ghost use Rattle.std.specs.Prelude.{◌≤◌, length};
 ghost use Rattle.sets.specs.Lists.{tabulate};
 ghost use Rattle.rising.specs.RisingSets.{add_all};

@@ -1,4 +1,6 @@
 // Every set made of a word and one literal of each of some heads. The sets are enumerated, and not the ways to choose the literals, which may be far more.
+#![tactic(auto)]
+
 ghost use Rattle.std.specs.Prelude.{◌≤◌, ◌<◌, length};
 ghost use Rattle.sets.specs.Lists.{sift, tabulate};
 ghost use Rattle.sets.specs.Words.{Highest};

@@ -1,4 +1,6 @@
 // Whether a set can be made of one literal of each of some heads, and the literal to try first.
+#![tactic(auto)]
+
 ghost use Rattle.std.specs.Prelude.{◌≡◌, true, [], ◌≤◌, ◌<◌, ltb, length};
 ghost use Rattle.std.specs.Int.Count.{ones};
 ghost use Rattle.sets.specs.Lists.{any_of, sift, tabulate};

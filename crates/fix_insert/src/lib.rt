@@ -1,4 +1,6 @@
 // A word looked for in a set that rises in one run or in two, and put into one run.
+#![tactic(auto)]
+
 ghost use Rattle.std.specs.Prelude.{◌≡◌, ◌+◌, ◌≤◌, ◌<◌, length, take};
 ghost use Rattle.sets.specs.Lists.{Rising};
 ghost use Rattle.rising.specs.Growing.{first_run, Runs, From, Holds};

@@ -1,4 +1,6 @@
 // The models of a positive program whose lowest members are the literals, listed.
+#![tactic(auto)]
+
 ghost use Rattle.std.specs.Prelude.{◌≡◌, ◌≤◌, length};
 ghost use Rattle.sets.specs.Lists.{tabulate};
 ghost use Rattle.operator.specs.Operator.{rule_at};

@@ -1,4 +1,6 @@
 // A word put into a set if it is made of another and one literal of each of some heads.
+#![tactic(auto)]
+
 ghost use Rattle.std.specs.Prelude.{◌≡◌, ◌≤◌, eqb, length};
 ghost use Rattle.sets.specs.Lists.{any_of, sift, onward, tabulate};
 ghost use Rattle.rising.specs.Growing.{held, Runs, Gathered};

@@ -1,4 +1,6 @@
 // The two runs of a set merged.
+#![tactic(auto)]
+
 ghost use Rattle.std.specs.Prelude.{◌≡◌, ◌+◌, ◌≤◌, length, take, drop};
 ghost use Rattle.rising.specs.Growing.{Split, Settled, above_at};
 

@@ -1,4 +1,6 @@
 // The minimal ones of the members of a stage that satisfy every clause, taken in two lent slices.
+#![tactic(auto)]
+
 ghost use Rattle.std.specs.Prelude.{◌≡◌, ◌≤◌, length, take};
 ghost use Rattle.sets.specs.Lists.{sift, any_of, tabulate, Rising};
 ghost use Rattle.rising.specs.Slices.{Prefix};

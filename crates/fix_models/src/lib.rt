@@ -1,4 +1,6 @@
 // The minimal models of a positive program, by the run of its stages in two lent slices.
+#![tactic(auto)]
+
 ghost use Rattle.std.specs.Prelude.{◌≡◌, ◌≤◌, length};
 ghost use Rattle.sets.specs.Lists.{tabulate};
 ghost use Rattle.operator.specs.Operator.{rule_at};

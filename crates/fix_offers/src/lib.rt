@@ -1,4 +1,6 @@
 // The literals that some heads offer.
+#![tactic(auto)]
+
 ghost use Rattle.std.specs.Prelude.{◌≡◌, ◌≤◌};
 ghost use Rattle.sets.specs.Lists.{tabulate};
 ghost use Rattle.heads.specs.Heads.{head_at, offered_by, without};

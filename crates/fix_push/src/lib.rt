@@ -1,4 +1,6 @@
 // One clause of (b), of (c) or of (d).
+#![tactic(auto)]
+
 ghost use Rattle.std.specs.Prelude.{◌≡◌, [], ◌∷◌, ◌<◌};
 ghost use Rattle.sets.specs.Words.{mask};
 ghost use Rattle.transform.specs.Transform.{clause_d};

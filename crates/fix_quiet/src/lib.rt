@@ -1,4 +1,6 @@
 // Whether a member need only give itself with one literal more.
+#![tactic(auto)]
+
 ghost use Rattle.std.specs.Prelude.{◌≡◌, ◌≤◌, length};
 ghost use Rattle.sets.specs.Lists.{any_of, tabulate};
 ghost use Rattle.operator.specs.Operator.{rule_at};

@@ -1,4 +1,6 @@
 // The run of the stages of a positive program, in two lent slices.
+#![tactic(auto)]
+
 ghost use Rattle.std.specs.Prelude.{◌≡◌, true, ◌≤◌, length, take};
 ghost use Rattle.sets.specs.Lists.{every, tabulate};
 ghost use Rattle.lists.specs.Bytes.{same};

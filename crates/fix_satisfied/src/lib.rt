@@ -1,4 +1,6 @@
 // Whether a word, and every member of a stage, satisfies every clause.
+#![tactic(auto)]
+
 ghost use Rattle.std.specs.Prelude.{◌≡◌, ◌≤◌, length};
 ghost use Rattle.sets.specs.Lists.{any_of, tabulate, every};
 ghost use Rattle.operator.specs.Operator.{rule_at};

@@ -1,4 +1,6 @@
 // What a set gives, and the stage that follows a stage.
+#![tactic(auto)]
+
 ghost use Rattle.std.specs.Prelude.{◌≡◌, ◌≤◌, length, take};
 ghost use Rattle.sets.specs.Lists.{tabulate};
 ghost use Rattle.rising.specs.Growing.{Grown, held, Runs, Gathered};

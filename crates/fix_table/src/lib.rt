@@ -1,4 +1,6 @@
 // The fixpoint of a table all of whose clauses count: its transform, and the models of that.
+#![tactic(auto)]
+
 ghost use Rattle.std.specs.Prelude.{◌≡◌, true, ◌≤◌};
 ghost use Rattle.program.specs.Clauses.{standing};
 ghost use Rattle.program.specs.Valid.{valid};

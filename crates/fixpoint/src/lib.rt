@@ -1,4 +1,6 @@
 // The fixpoint of the epistemic transform: stages formed on words, their canonical minimal models, the literal parts of these.
+#![tactic(auto)]
+
 ghost use Rattle.fix_answer.specs.Answer.{Fixes};
 
 use fix_answer::FixpointAnswer;

@@ -1,4 +1,6 @@
 // The form of a book's bytes and of its names line: the lowest of refusals 1 to 6 that applies to a text.
+#![tactic(auto)]
+
 ghost use Rattle.std.specs.Prelude.{◌≡◌, false};
 ghost use Rattle.text.specs.Refusals.{wrong_size, unended, is_foreign, has_foreign, too_many_lines, opening_refusal};
 

@@ -1,4 +1,6 @@
 // Document 02, U5: one call holds a clause in the separate place of the table, where it does not count.
+#![tactic(auto)]
+
 ghost use Rattle.std.specs.Prelude.{◌≡◌};
 ghost use Rattle.program.specs.Clauses.{clause_of};
 ghost use Rattle.held.specs.Holding.{hold_refusal, hold_of};

@@ -1,4 +1,6 @@
 // The held clause as the last clause of the table.
+#![tactic(auto)]
+
 ghost use Rattle.std.specs.Prelude.{◌≡◌, ◌<◌};
 ghost use Rattle.held.specs.Clearing.{kept};
 

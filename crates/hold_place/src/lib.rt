@@ -1,4 +1,6 @@
 // The separate place with a clause in it, and whether an equal clause stands in a row.
+#![tactic(auto)]
+
 ghost use Rattle.std.specs.Prelude.{◌≡◌, ◌≤◌, ◌<◌};
 ghost use Rattle.program.specs.Clauses.{clause_of, row_at, rows, is_equal_row};
 ghost use Rattle.program.specs.Held.{held_row, in_place, holding};

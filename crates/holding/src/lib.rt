@@ -1,4 +1,6 @@
 // What `hold` says of a table that was read, at the front of a slice with room for it.
+#![tactic(auto)]
+
 ghost use Rattle.lists.specs.Bytes.{Wrote};
 ghost use Rattle.program.specs.Clauses.{clause_of};
 ghost use Rattle.printing.specs.Ready.{Ready};

@@ -1,4 +1,6 @@
 // A line of items at the front of a lent slice: of names, of numbers.
+#![tactic(auto)]
+
 ghost use Rattle.std.specs.Prelude.{◌≡◌, ◌≤◌, ◌<◌, length, take};
 ghost use Rattle.sets.specs.Lists.{tabulate};
 ghost use Rattle.lists.specs.Bytes.{Wrote};

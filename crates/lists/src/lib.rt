@@ -1,4 +1,6 @@
 // Slices of bytes: where a byte stands, how often, whether two slices are the same, and bytes put at the front of a slice; the smaller of two lengths.
+#![tactic(auto)]
+
 ghost use Rattle.std.specs.Prelude.{◌≡◌, ◌≤◌, min, length};
 ghost use Rattle.lists.specs.Bytes.{EndsAt, CountOf, Wrote, same, one_if};
 

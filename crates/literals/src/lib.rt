@@ -1,4 +1,6 @@
 // The members of a word, literals or the rows of a set, and words as sets of them.
+#![tactic(auto)]
+
 ghost use Rattle.std.specs.Prelude.{◌≡◌, ◌<◌};
 ghost use Rattle.std.specs.Int.Count.{count_trailing_zeros};
 ghost use Rattle.sets.specs.Words.{inside, put};

@@ -1,4 +1,6 @@
 // The names line of a text: whether it is that of a dated book, where its names end, and the lower of refusals 5 and 6 that applies.
+#![tactic(auto)]
+
 ghost use Rattle.std.specs.Prelude.{◌≡◌};
 ghost use Rattle.sets.specs.Lists.{any_of};
 ghost use Rattle.lists.specs.Bytes.{same, pieces, left};
@@ -9,7 +11,7 @@ ghost use Rattle.namesline.specs.NamesLine.{names_said, NamesEnd, names_refusal}
 use text::{NEWLINE, SPACE};
 
 // What the items on a line are: how many, whether each is a name, and whether no two are equal.
-#[derive(Drop)]
+#[derive(Clone, Copy)]
 struct NamesLine {
     count: usize,
     named: bool,

@@ -1,4 +1,6 @@
 // The literal parts of the canonical ones among some words, as a set, and written into a list.
+#![tactic(auto)]
+
 ghost use Rattle.std.specs.Prelude.{◌≡◌, ◌^◌, ◌≤◌, ◌<◌, length, take};
 ghost use Rattle.sets.specs.Lists.{Each};
 ghost use Rattle.rising.specs.Slices.{Prefix};

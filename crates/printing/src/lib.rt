@@ -1,4 +1,6 @@
 // What several words say of a table that was read, at the front of a slice with room for it: the line of a refusal, and the models; how much room and how long a list they have.
+#![tactic(auto)]
+
 ghost use Rattle.std.specs.Prelude.{◌≤◌, length};
 ghost use Rattle.lists.specs.Bytes.{Wrote};
 ghost use Rattle.wording.specs.Printed.{refused_line};

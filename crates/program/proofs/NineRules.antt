@@ -2,27 +2,27 @@
 use borrow.Author.Tests.{eq-eqb, ne_eqb}
 use Rattle.lists.proofs.Loops.{loops}
 use Rattle.program.proofs.Places.{up_to}
-use Rattle.program.proofs.Nine as laws
+use Rattle.program.proofs.Nine as nine
 
-pub ruleset rules = (
+pub ruleset laws = (
   eq-eqb,
   ne_eqb,
   up_to,
-  laws.zero_not,
-  laws.zero_done,
-  laws.place_at,
-  laws.places_same,
-  laws.place_is,
-  laws.named_is,
-  laws.name_at_lem,
-  laws.names_none,
-  laws.names_many,
-  laws.names_are,
-  laws.clause_is,
-  laws.clauses_many,
-  laws.clauses_are,
-  laws.used_is,
-  laws.unused_is,
-  laws.valid_is,
+  nine.zero_not,
+  nine.zero_done,
+  nine.place_at,
+  nine.places_same,
+  nine.place_is,
+  nine.named_is,
+  nine.name_at_lem,
+  nine.names_none,
+  nine.names_many,
+  nine.names_are,
+  nine.clause_is,
+  nine.clauses_many,
+  nine.clauses_are,
+  nine.used_is,
+  nine.unused_is,
+  nine.valid_is,
   loops,
 )

@@ -1,4 +1,5 @@
 // The table of a program, by value, what calls answer, and the numbers of the refusals: definitions and laws, and no function.
+#![tactic(auto)]
 
 // ---- the table
 // "Names: 1 to 12", each in a place of eight bytes; "Clauses: 0 to 64".
@@ -11,7 +12,7 @@ pub const ALL_NAME_BYTES: usize = MOST_ATOMS * NAME_BYTES;
 pub const MOST_CLAUSES: usize = 64;
 
 // Document 02, U5: a separate place for one clause that does not count yet; it is zero where it is not in use.
-#[derive(Drop)]
+#[derive(Clone, Copy)]
 pub struct HeldClause {
     pub in_use: bool,
     pub head: u32,
@@ -23,7 +24,7 @@ pub struct HeldClause {
 
 // Document 01's table; a name is an atom here, and unused places are zero.
 // Document 02, U13: whether its book was dated, and the first and the last day of each clause, zero where it was not.
-#[derive(Drop)]
+#[derive(Clone, Copy)]
 pub struct Program {
     pub atom_count: usize,
     pub atom_names: [u8; ALL_NAME_BYTES],
@@ -39,14 +40,14 @@ pub struct Program {
 
 // ---- what calls answer
 // Whether a call takes its input, or the refusal that it gives.
-#[derive(Drop)]
+#[derive(Clone, Copy)]
 pub enum Verdict {
     Accepted,
     Refused(u8),
 }
 
 // How a call that lists models ended; document 01's outcomes.
-#[derive(Drop)]
+#[derive(Clone, Copy)]
 pub enum Outcome {
     Complete,
     Full,

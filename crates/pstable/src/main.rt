@@ -1,12 +1,15 @@
 // pstable: a word of the command line is run on the book from standard input.
+#![tactic(auto)]
+
 ghost use Rattle.std.specs.Prelude.{◌≤◌};
 
 use commands::MOST_BYTES;
 use decimal::Parsed;
 use fixing::MOST_WORDS;
-use libc::{STDERR_FILENO, STDIN_FILENO, STDOUT_FILENO};
 use printing::MOST_PLACES;
 use say_words::Command;
+use std::io;
+use std::rt::Env;
 
 const MOST_DAY: u64 = 65535;
 
@@ -19,63 +22,63 @@ enum Asked {
 
 // ---- from words to a command
 // The number up to `bound` that argument `i` is; a missing one, and one that is too long, has no digits.
-fn number(i: usize, bound: u64) -> Parsed {
+fn number(env: &impl Env, i: usize, bound: u64) -> Parsed {
     let mut digits = [0u8; 32];
-    let n = os::arg(i, &mut digits);
+    let n = inputs::argument(env, i, &mut digits);
     decimal::read_number(&digits[..n], bound)
 }
 
 // The word is argument `at`, and its numbers stand behind it.
-fn check(at: usize) -> Asked
+fn check(env: &impl Env, at: usize) -> Asked
     requires { at ≤ 3 }
 {
-    let Parsed::Number(w) = number(at + 1, 4294967295) else {
+    let Parsed::Number(w) = number(env, at + 1, 4294967295) else {
         return Asked::Wrong;
     };
     Asked::Run(Command::Check((w % 4294967296) as u32))
 }
 
-fn search(at: usize) -> Asked
+fn search(env: &impl Env, at: usize) -> Asked
     requires { at ≤ 3 }
 {
-    let Parsed::Number(limit) = number(at + 1, 18446744073709551615) else {
+    let Parsed::Number(limit) = number(env, at + 1, 18446744073709551615) else {
         return Asked::Wrong;
     };
-    let Parsed::Number(places) = number(at + 2, MOST_PLACES as u64) else {
+    let Parsed::Number(places) = number(env, at + 2, MOST_PLACES as u64) else {
         return Asked::Wrong;
     };
     Asked::Run(Command::Search(limit, places as usize))
 }
 
-fn fixpoint(at: usize) -> Asked
+fn fixpoint(env: &impl Env, at: usize) -> Asked
     requires { at ≤ 3 }
 {
-    let Parsed::Number(places) = number(at + 1, MOST_PLACES as u64) else {
+    let Parsed::Number(places) = number(env, at + 1, MOST_PLACES as u64) else {
         return Asked::Wrong;
     };
-    let Parsed::Number(capacity) = number(at + 2, MOST_WORDS as u64) else {
+    let Parsed::Number(capacity) = number(env, at + 2, MOST_WORDS as u64) else {
         return Asked::Wrong;
     };
     Asked::Run(Command::Fixpoint(places as usize, capacity as usize))
 }
 
 // The three parts of a clause, as words, and its two days.
-fn clause(at: usize, keep: bool) -> Asked
+fn clause(env: &impl Env, at: usize, keep: bool) -> Asked
     requires { at ≤ 3 }
 {
-    let Parsed::Number(head) = number(at + 1, 4294967295) else {
+    let Parsed::Number(head) = number(env, at + 1, 4294967295) else {
         return Asked::Wrong;
     };
-    let Parsed::Number(body) = number(at + 2, 4294967295) else {
+    let Parsed::Number(body) = number(env, at + 2, 4294967295) else {
         return Asked::Wrong;
     };
-    let Parsed::Number(naf) = number(at + 3, 4294967295) else {
+    let Parsed::Number(naf) = number(env, at + 3, 4294967295) else {
         return Asked::Wrong;
     };
-    let Parsed::Number(first) = number(at + 4, MOST_DAY) else {
+    let Parsed::Number(first) = number(env, at + 4, MOST_DAY) else {
         return Asked::Wrong;
     };
-    let Parsed::Number(last) = number(at + 5, MOST_DAY) else {
+    let Parsed::Number(last) = number(env, at + 5, MOST_DAY) else {
         return Asked::Wrong;
     };
     let h = (head % 4294967296) as u32;
@@ -90,17 +93,17 @@ fn clause(at: usize, keep: bool) -> Asked
 }
 
 // A line for each word and the number of arguments up to the last that it takes.
-fn understood(word: &[u8], at: usize, count: usize) -> Asked
+fn understood(env: &impl Env, word: &[u8], at: usize, count: usize) -> Asked
     requires { at ≤ 3 }
 {
     if lists::same_bytes(word, b"check") & (count == at + 2) {
-        return check(at);
+        return check(env, at);
     }
     if lists::same_bytes(word, b"search") & (count == at + 3) {
-        return search(at);
+        return search(env, at);
     }
     if lists::same_bytes(word, b"fixpoint") & (count == at + 3) {
-        return fixpoint(at);
+        return fixpoint(env, at);
     }
     if lists::same_bytes(word, b"summary") & (count == at + 1) {
         return Asked::Run(Command::Summary);
@@ -109,58 +112,63 @@ fn understood(word: &[u8], at: usize, count: usize) -> Asked
         return Asked::Run(Command::Write);
     }
     if lists::same_bytes(word, b"hold") & (count == at + 6) {
-        return clause(at, false);
+        return clause(env, at, false);
     }
     if lists::same_bytes(word, b"keep") & (count == at + 6) {
-        return clause(at, true);
+        return clause(env, at, true);
     }
     Asked::Wrong
 }
 
 // ---- the book is read, and what the command prints is written
-fn print(day: u16, command: Command, book: &[u8], out: &mut [u8]) {
+fn print(
+    rt: &impl Print,
+    day: u16,
+    command: Command,
+    book: &[u8],
+    out: &mut [u8],
+) -> io::Result<()> {
     let n = commands::run(book, day, command, &[], &[], out);
-    io::write_all(STDOUT_FILENO, &out[..n]);
+    rt.write_all(&out[..n])
 }
 
-fn serve(day: u16, command: Command) {
+fn serve(rt: &(impl Input + Print), day: u16, command: Command) -> io::Result<()> {
     let mut book = [0u8; 4097];
-    let n = io::read_full(STDIN_FILENO, &mut book);
+    let n = inputs::read_input(rt, &mut book)?;
     let mut out = [0u8; MOST_BYTES];
-    print(day, command, &book[..n], &mut out);
+    print(rt, day, command, &book[..n], &mut out)
 }
 
-fn complain() {
-    io::write_all(
-        STDERR_FILENO,
-        b"usage: pstable [--day D] check WORD | search LIMIT PLACES | fixpoint PLACES CAPACITY | summary | write | hold HEAD BODY NOT FROM TO | keep HEAD BODY NOT FROM TO < BOOK\n",
-    );
+fn complain(rt: &impl Eprint) -> io::Result<()> {
+    rt.eprintln(
+        "usage: pstable [--day D] check WORD | search LIMIT PLACES | fixpoint PLACES CAPACITY | summary | write | hold HEAD BODY NOT FROM TO | keep HEAD BODY NOT FROM TO < BOOK",
+    )
 }
 
 // The word is argument `at`.
-fn obey(day: u16, at: usize)
+fn obey(rt: &(impl Env + Input + Print + Eprint), day: u16, at: usize) -> io::Result<()>
     requires { at ≤ 3 }
 {
     let mut word = [0u8; 16];
-    let n = os::arg(at, &mut word);
-    let asked = understood(&word[..n], at, os::arg_count());
+    let n = inputs::argument(rt, at, &mut word);
+    let asked = understood(rt, &word[..n], at, inputs::argument_count(rt));
     match asked {
-        Asked::Run(command) => serve(day, command),
-        Asked::Wrong => complain(),
+        Asked::Run(command) => serve(rt, day, command),
+        Asked::Wrong => complain(rt),
     }
 }
 
 // The day stands in front of the word, and is 0 where it is not given.
-fn main() {
+fn main(rt: HostRuntime) -> io::Result<()> {
     let mut word = [0u8; 16];
-    let n = os::arg(1, &mut word);
+    let n = inputs::argument(&rt, 1, &mut word);
     if lists::same_bytes(&word[..n], b"--day") {
-        let day = number(2, MOST_DAY);
+        let day = number(&rt, 2, MOST_DAY);
         match day {
-            Parsed::Number(d) => obey((d % 65536) as u16, 3),
-            Parsed::Nothing => complain(),
+            Parsed::Number(d) => obey(&rt, (d % 65536) as u16, 3),
+            Parsed::Nothing => complain(&rt),
         }
     } else {
-        obey(0, 1);
+        obey(&rt, 0, 1)
     }
 }

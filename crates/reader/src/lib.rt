@@ -1,4 +1,6 @@
 // The reader: a text's table, or the lowest refusal that applies.
+#![tactic(auto)]
+
 ghost use Rattle.std.specs.Prelude.{◌≡◌, length};
 ghost use Rattle.text.specs.Lines.{names};
 ghost use Rattle.text.specs.Refusals.{opening_refusal};

@@ -1,5 +1,7 @@
 // A file of records: where the parts of a record stand, and the numbers of its line.
 // A record is a line with a label, the text of a book, an equals sign, numbers with a space between, and the line's end.
+#![tactic(auto)]
+
 ghost use Rattle.std.specs.Prelude.{◌≡◌, ◌≤◌, ◌<◌, length};
 ghost use Rattle.records.specs.Records.{behind_of, value_of, RecordAt, NumberAt};
 
@@ -9,7 +11,7 @@ use decimal::Parsed;
 pub const NO_NUMBER: u64 = 18_446_744_073_709_551_615;
 
 // Where the parts of a record end and begin, where the next record begins, and whether the file's end does not cut this one.
-#[derive(Drop)]
+#[derive(Clone, Copy)]
 pub struct Record {
     pub label_end: usize,
     pub text: usize,
@@ -21,7 +23,7 @@ pub struct Record {
 }
 
 // A number of a line, and where the next begins.
-#[derive(Drop)]
+#[derive(Clone, Copy)]
 pub struct Number {
     pub value: u64,
     pub next: usize,

@@ -1,15 +1,17 @@
 // The report program: reads a book from standard input, and writes the whole report from one buffer.
-use commands::MOST_BYTES;
-use libc::{STDIN_FILENO, STDOUT_FILENO};
+#![tactic(auto)]
 
-fn print_report(book: &[u8], out: &mut [u8]) {
+use commands::MOST_BYTES;
+use std::io;
+
+fn print_report(rt: &impl Print, book: &[u8], out: &mut [u8]) -> io::Result<()> {
     let n = commands::report(book, out);
-    io::write_all(STDOUT_FILENO, &out[..n]);
+    rt.write_all(&out[..n])
 }
 
-fn main() {
+fn main(rt: HostRuntime) -> io::Result<()> {
     let mut book = [0u8; 4097];
-    let n = io::read_full(STDIN_FILENO, &mut book);
+    let n = inputs::read_input(&rt, &mut book)?;
     let mut out = [0u8; MOST_BYTES];
-    print_report(&book[..n], &mut out);
+    print_report(&rt, &book[..n], &mut out)
 }

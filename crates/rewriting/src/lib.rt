@@ -1,4 +1,6 @@
 // The epistemic transform of a program, put out as words into two slices: (a), then what `standins` puts behind it, clause by clause.
+#![tactic(auto)]
+
 ghost use Rattle.std.specs.Prelude.{◌≡◌, map, ◌+◌, ◌^◌, ◌≤◌, ◌<◌, length};
 ghost use Rattle.sets.specs.Lists.{tabulate};
 ghost use Rattle.sets.specs.Words.{mask};

@@ -1,4 +1,6 @@
 // What a row of numbers says for so many names.
+#![tactic(auto)]
+
 ghost use Rattle.std.specs.Prelude.{◌≡◌, ◌≤◌};
 ghost use Rattle.text_row.specs.Rows.{wanted, day_of, weighed};
 

@@ -1,4 +1,6 @@
 // What a word of the command line says of a table that was read.
+#![tactic(auto)]
+
 ghost use Rattle.lists.specs.Bytes.{Wrote};
 ghost use Rattle.printing.specs.Ready.{Ready};
 ghost use Rattle.say_words.specs.Commands.{text_of};

@@ -1,20 +1,16 @@
 -- What `fixpoint` prints: the room for it, and that it is the text of the call's answer. Assumes nothing.
 use mathlib.Core.Path.{◌≡◌, refl, sym, ap, ◌∙◌, subst}
 use mathlib.Core.Bool.{Bool, true, false, cond}
-use mathlib.Core.Logic.{inl, inr}
 use mathlib.Core.List.{List, [], ◌∷◌, ◌++◌}
 use Prim.Native.Nat.{ℕ, ◌^◌, ◌≤◌, ◌<◌, min}
 use native.Mathlib.Omega.{arith}
 use lib.Dec.{eqb}
 use lib.ListN.{length, take, drop, length-append, length-take, length-drop}
 use lib.Seq.{length-take-le}
-use types.Run.{OneOf}
-use denote.Enum.Declared.{tag_of}
 use Rattle.lists.specs.Bytes.{Wrote}
 use Rattle.program.specs.declared.Program.{Program}
 use Rattle.program.specs.declared.Outcome.{Outcome}
 use Rattle.program.specs.declared.Outcome.TheVariants as outcome
-use Rattle.program.specs.contracts.Outcome.{the_type}
 use Rattle.wording.specs.Printed.{outcome_word, numbered, refused_line}
 use Rattle.wording.proofs.Bounds.{numbered-most, outcome-most}
 use Rattle.listings.specs.Listing.{listing}
@@ -39,14 +35,12 @@ fixpoint_cut d k j r q p xs m ys e f w =
     (subst (λ (l : List ℕ). Wrote (fixpoint_text d (take r (zeros 4096)) l l p) xs m ys) (cut_zeros q j 65536 f) w)
 
 -- ---- a refusal, or the models and the line of the outcome
-no_refusal : (o : Outcome) → OneOf (0 ∷ 1 ∷ 2 ∷ []) (tag_of the_type o) → (t : List ℕ) → unless_ended o t ≡ t
+no_refusal : (o : Outcome) → ((n : ℕ) → o ≡ outcome.Refused n → ⊥) → (t : List ℕ) → unless_ended o t ≡ t
 unfolding unless_ended unless_refused
 no_refusal outcome.Complete h t = refl
 no_refusal outcome.Full h t = refl
 no_refusal outcome.Spent h t = refl
-no_refusal (outcome.Refused n) (inl e) t = absurd (omega arith)
-no_refusal (outcome.Refused n) (inr (inl e)) t = absurd (omega arith)
-no_refusal (outcome.Refused n) (inr (inr e)) t = absurd (omega arith)
+no_refusal (outcome.Refused n) h t = absurd (h n refl)
 
 module _ (p : Program) (ws : List ℕ) (o : Outcome) (m : ℕ) (xs : List ℕ) (r : ℕ) (ys : List ℕ) where
   pub fixed_refused_lem : (n : ℕ) → o ≡ outcome.Refused n → Wrote (refused_line n) xs r ys → Wrote (fixed_text p ws o m) xs r ys
@@ -54,7 +48,7 @@ module _ (p : Program) (ws : List ℕ) (o : Outcome) (m : ℕ) (xs : List ℕ) (
   fixed_refused_lem n e h = rw e h
 
   -- in the arm of the outcomes that are no refusal
-  pub fixed-ended : OneOf (0 ∷ 1 ∷ 2 ∷ []) (tag_of the_type o) → Wrote (listing p ws ++ numbered (outcome_word o) m) xs r ys → Wrote (fixed_text p ws o m) xs r ys
+  pub fixed-ended : ((n : ℕ) → o ≡ outcome.Refused n → ⊥) → Wrote (listing p ws ++ numbered (outcome_word o) m) xs r ys → Wrote (fixed_text p ws o m) xs r ys
   unfolding fixed_text
   fixed-ended t h = rw (no_refusal o t (listing p ws ++ numbered (outcome_word o) m)) h
 

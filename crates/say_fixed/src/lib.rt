@@ -1,4 +1,6 @@
 // What is said of a fixpoint: the line of a refusal, or the models and the line of the outcome.
+#![tactic(auto)]
+
 ghost use Rattle.std.specs.Prelude.{◌++◌};
 ghost use Rattle.lists.specs.Bytes.{Wrote};
 ghost use Rattle.wording.specs.Printed.{outcome_word, numbered};

@@ -1,4 +1,6 @@
 // The report as a word of the command line.
+#![tactic(auto)]
+
 ghost use Rattle.std.specs.Prelude.{◌≡◌};
 ghost use Rattle.say_words.specs.Commands.{report_command};
 

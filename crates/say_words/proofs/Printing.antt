@@ -16,7 +16,7 @@ use Rattle.text.specs.Render.{render}
 use Rattle.text.proofs.RoundTrip.{read_valid}
 use Rattle.wording.specs.Printed.{refused_line}
 use Rattle.printing.specs.Ready.{most_bytes, Ready}
-use Rattle.printing.specs.Texts.{unless_refused, lent_list}
+use Rattle.printing.specs.Texts.{unless_refused, lent_list, allowance}
 use Rattle.checking.specs.Texts.{check_text}
 use Rattle.searching.specs.Texts.{search_text}
 use Rattle.say_fixed.specs.Texts.{work_slice, fixpoint_text}
@@ -88,6 +88,11 @@ module _ (t : ℕ) (k : Command) (ns bs : List ℕ) (p : Program) (xs : List ℕ
   is-keep d b n f l e h = rw e h
 
 -- ---- the report
-pub report_prints : (k : Command) (b xs : List ℕ) (r : ℕ) (ys : List ℕ) → k ≡ report_command → Prints (output 0 k [] [] b) xs r ys → Prints (report_of b) xs r ys
+pub report_prints : (b xs : List ℕ) (r : ℕ) (ys : List ℕ) → Prints (output 0 (command.Search allowance 4096) [] [] b) xs r ys → Prints (report_of b) xs r ys
+unfolding output text_of report_of
+report_prints b xs r ys h = h
+
+-- what is printed for the command that asks for the report is the report
+pub report_from : (k : Command) (b xs : List ℕ) (r : ℕ) (ys : List ℕ) → k ≡ report_command → Prints (output 0 k [] [] b) xs r ys → Prints (report_of b) xs r ys
 unfolding output text_of report_of report_command
-report_prints k b xs r ys e h = rw e at h
+report_from k b xs r ys e h = rw e at h

@@ -1,7 +1,8 @@
 // The words of the command line, and what is printed on a book: definitions and laws, and no function.
+#![tactic(auto)]
 
 // A word of the command line, with the numbers behind it.
-#[derive(Drop)]
+#[derive(Clone, Copy)]
 pub enum Command {
     Check(u32),
     Search(u64, usize),

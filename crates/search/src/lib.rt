@@ -1,4 +1,6 @@
 // The search: the p-stable leaves of a program's tree, in visiting order, with a node limit and a lent list.
+#![tactic(auto)]
+
 ghost use Rattle.std.specs.Prelude.{◌≡◌, true};
 ghost use Rattle.program.specs.Clauses.{standing};
 ghost use Rattle.program.specs.Valid.{valid};

@@ -1,4 +1,6 @@
 // The recursion over the tree: the first p-stable leaf below a node.
+#![tactic(auto)]
+
 ghost use Rattle.std.specs.Prelude.{◌≡◌, ◌+◌, ◌-◌, ◌^◌, ◌≤◌};
 ghost use Rattle.sets.specs.Lists.{tabulate};
 ghost use Rattle.tree.specs.NodeTest.{dead};

@@ -1,4 +1,6 @@
 // The columns of a program's rows, and the rows that mention a literal.
+#![tactic(auto)]
+
 ghost use Rattle.std.specs.Prelude.{◌≡◌, ◌≤◌, ◌<◌};
 ghost use Rattle.program.specs.Clauses.{clause_at};
 ghost use Rattle.columns.specs.Columns.{Column, Columns, mentioned_in};

@@ -1,4 +1,6 @@
 // The first p-stable leaf of the whole tree from a word on.
+#![tactic(auto)]
+
 ghost use Rattle.std.specs.Prelude.{◌*◌, ◌≤◌};
 ghost use Rattle.sets.specs.Lists.{tabulate};
 ghost use Rattle.tree.specs.NodeTest.{possible};

@@ -1,4 +1,6 @@
 // The test of one word that satisfies its reduct, over clauses that lie in one array.
+#![tactic(auto)]
+
 ghost use Rattle.std.specs.Prelude.{◌≡◌, true, ◌^◌, ◌≤◌, ◌<◌};
 ghost use Rattle.sets.specs.Lists.{tabulate};
 ghost use Rattle.sets.specs.Words.{Highest};

@@ -1,4 +1,6 @@
 // The loop of the search: one p-stable leaf after the other, put into a lent list.
+#![tactic(auto)]
+
 ghost use Rattle.std.specs.Prelude.{◌≡◌, ◌*◌, ◌≤◌};
 ghost use Rattle.sets.specs.Lists.{tabulate};
 ghost use Rattle.tree.specs.NodeTest.{possible, dead};

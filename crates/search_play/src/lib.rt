@@ -1,4 +1,6 @@
 // The rows in play at a node, by the rows and on the way down from the root.
+#![tactic(auto)]
+
 ghost use Rattle.std.specs.Prelude.{◌≡◌, ◌&&◌, ◌≤◌, ◌*◌};
 ghost use Rattle.sets.specs.Words.{inside, apart};
 ghost use Rattle.columns.specs.Play.{InPlay};
@@ -14,7 +16,7 @@ fn is_in_play(body: u32, naf: u32, w: u32, reach: u32) -> bool
 }
 
 // The rows in play where `w` is decided in and `reach` not decided out.
-fn rows_in_play(table: &[u32; leaf::WORDS], count: usize, w: u32, reach: u32) -> u64
+pub fn rows_in_play(table: &[u32; leaf::WORDS], count: usize, w: u32, reach: u32) -> u64
     requires { count ≤ 64 }
     ensures { InPlay (packed_at table.now) count reach w result }
 {

@@ -1,4 +1,6 @@
 // The rows of a program in one array, and those that rule out every word between two.
+#![tactic(auto)]
+
 ghost use Rattle.std.specs.Prelude.{◌≡◌};
 ghost use Rattle.sets.specs.Lists.{any_of};
 ghost use Rattle.literals.specs.Literals.{members};

@@ -1,4 +1,6 @@
 // Whether some literal that is in can no longer be supported.
+#![tactic(auto)]
+
 ghost use Rattle.std.specs.Prelude.{◌≡◌, ◌≤◌};
 ghost use Rattle.sets.specs.Lists.{any_of, tabulate};
 ghost use Rattle.sets.specs.Words.{bit};

@@ -1,4 +1,6 @@
 // What `search` says of a table that was read, at the front of a slice with room for it.
+#![tactic(auto)]
+
 ghost use Rattle.std.specs.Prelude.{◌++◌};
 ghost use Rattle.lists.specs.Bytes.{Wrote};
 ghost use Rattle.wording.specs.Printed.{last_line};

@@ -1,1 +1,2 @@
 // Words as finite sets, lists and least numbers: definitions and laws, and no function.
+#![tactic(auto)]

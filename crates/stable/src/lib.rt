@@ -1,7 +1,8 @@
 // What the check of one candidate answers, and that this is Definition 3.1: definitions and theorems, and no function.
+#![tactic(auto)]
 
 // What the check of a candidate finds.
-#[derive(Drop)]
+#[derive(Clone, Copy)]
 pub enum Checked {
     Refused(u8),
     Violated(u32),

@@ -1,4 +1,6 @@
 // (b), (c) and (d): the clauses that join the stand-ins of a clause with its literals and with each other.
+#![tactic(auto)]
+
 ghost use Rattle.std.specs.Prelude.{◌++◌, ◌+◌, ◌≤◌, ◌<◌, length};
 ghost use Rattle.literals.specs.Literals.{literals};
 ghost use Rattle.transform.specs.Transform.{clause_d};

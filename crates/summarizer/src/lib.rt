@@ -1,4 +1,6 @@
 // The summary: which values each atom takes in a list of words, and which atoms are settled.
+#![tactic(auto)]
+
 ghost use Rattle.std.specs.Prelude.{◌≡◌};
 ghost use Rattle.sets.specs.Lists.{every, tabulate};
 ghost use Rattle.program.specs.Values.{is_word};

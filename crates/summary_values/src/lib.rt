@@ -1,4 +1,6 @@
 // The values that one atom takes in a list of words, and whether it is settled.
+#![tactic(auto)]
+
 ghost use Rattle.std.specs.Prelude.{◌≡◌, ◌≤◌, eqb};
 ghost use Rattle.program.specs.Values.{value_in};
 ghost use Rattle.summary.specs.Summary.{occurs, occurring_in, is_settled, bit_if, shown_at};

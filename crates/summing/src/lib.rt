@@ -1,4 +1,6 @@
 // What `summary` says of a table that was read, at the front of a slice with room for it.
+#![tactic(auto)]
+
 ghost use Rattle.lists.specs.Bytes.{Wrote};
 ghost use Rattle.printing.specs.Ready.{Ready};
 ghost use Rattle.summing.specs.Texts.{summary_lines, summarized_text, summary_text};

@@ -1,4 +1,6 @@
 // The rows of a table whose days hold a day.
+#![tactic(auto)]
+
 ghost use Rattle.std.specs.Prelude.{◌≡◌};
 ghost use Rattle.program.specs.Days.{is_of_day, RowsOfDay};
 

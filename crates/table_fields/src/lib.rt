@@ -1,4 +1,6 @@
 // What stands in the fields of a table: a word over its atoms and the values in it, and the separate place where nothing is held.
+#![tactic(auto)]
+
 ghost use Rattle.std.specs.Prelude.{◌≡◌, ◌%◌};
 ghost use Rattle.program.specs.Held.{nothing_held};
 ghost use Rattle.program.specs.Values.{is_word, value_in};

@@ -1,4 +1,6 @@
 // The form of a name.
+#![tactic(auto)]
+
 ghost use Rattle.std.specs.Prelude.{◌≡◌, take};
 ghost use Rattle.sets.specs.Lists.{every};
 ghost use Rattle.program.specs.Names.{is_letter, is_plain, is_name};

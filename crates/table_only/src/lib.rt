@@ -1,4 +1,6 @@
 // The table of some of its rows.
+#![tactic(auto)]
+
 ghost use Rattle.std.specs.Prelude.{◌≡◌, ◌<◌};
 ghost use Rattle.program.specs.Only.{is_chosen, numbers, column_of, Picks, with_columns, only_of};
 
@@ -12,7 +14,7 @@ fn is_chosen(rows: u64, count: usize, k: usize) -> bool
 }
 
 // Numbers in the first `count` places, zeros behind them.
-#[derive(Drop)]
+#[derive(Clone, Copy)]
 struct Column {
     words: [u32; program::MOST_CLAUSES],
     count: usize,

@@ -1,4 +1,6 @@
 // A clause line of a text, read once as a row of numbers.
+#![tactic(auto)]
+
 ghost use Rattle.std.specs.Prelude.{◌≡◌, set};
 ghost use Rattle.text.specs.Lines.{value_of};
 ghost use Rattle.text_row.specs.Rows.{row_of};
@@ -15,7 +17,7 @@ const MOST_NUMBER: u64 = 65535;
 const NO_NUMBER: u32 = 65536;
 
 // The numbers on a line: how many items stand on it, and the number that each of the first `ROW_PLACES` is.
-#[derive(Drop)]
+#[derive(Clone, Copy)]
 pub struct Row {
     pub count: usize,
     pub values: [u32; ROW_PLACES],
@@ -23,7 +25,7 @@ pub struct Row {
 
 // What a clause line says: whether it has a value for each name and the days it should have, whether the values are all zero,
 // whether its first day is after its last, the words of its clause, and its days.
-#[derive(Drop)]
+#[derive(Clone, Copy)]
 pub struct ClauseLine {
     pub holds: bool,
     pub zero: bool,

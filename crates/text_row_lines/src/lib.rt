@@ -1,4 +1,6 @@
 // The lines of a table's rows, at the front of a slice with room for them.
+#![tactic(auto)]
+
 ghost use Rattle.std.specs.Prelude.{◌≡◌, ◌≤◌};
 ghost use mathlib.Core.List.{flat_map};
 ghost use Rattle.lists.specs.Bytes.{Wrote};

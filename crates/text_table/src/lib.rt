@@ -1,4 +1,6 @@
 // A text's table, and the all-zero table of a refusal.
+#![tactic(auto)]
+
 ghost use Rattle.std.specs.Prelude.{◌≡◌, true, false, ◌≤◌, length, replicate};
 ghost use Rattle.sets.specs.Lists.{every};
 ghost use Rattle.lists.specs.Bytes.{pieces, padded};

@@ -1,8 +1,10 @@
 // The tree of a search, and what a run over it answers: definitions and theorems, no function.
+#![tactic(auto)]
+
 use program::Outcome;
 
 // What the test of a node tells; a node that is not alive is dead.
-#[derive(Drop)]
+#[derive(Clone, Copy)]
 pub enum NodeStatus {
     Alive,
     Violated,
@@ -10,7 +12,7 @@ pub enum NodeStatus {
 }
 
 // What a search answers.
-#[derive(Drop)]
+#[derive(Clone, Copy)]
 pub struct SearchAnswer {
     pub outcome: Outcome,
     pub written: usize,

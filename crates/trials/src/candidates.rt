@@ -3,6 +3,7 @@ use crate::{asking, saying, summaries};
 use answers::{Answer, FREE, PLACES};
 use program::{Program, Verdict};
 use stable::Checked;
+use std::io;
 
 // How many of the lowest words are candidates.
 const LOWEST: usize = 64;
@@ -56,30 +57,36 @@ fn expected_of(found: Answer, w: u64, clauses: u64, stable: bool) -> Answer {
 }
 
 // Whether the check calls the candidate p-stable exactly where it should.
-fn agrees_at(p: Program, day: u16, w: u32, stable: bool) -> bool {
+fn agrees_at(rt: &impl Print, p: Program, day: u16, w: u32, stable: bool) -> io::Result<bool> {
     let found = asking::check(p, day, w);
     let expected = expected_of(found, w as u64, p.clause_count as u64, stable);
-    saying::agree(answers::CHECK, expected, found)
+    saying::agree(rt, answers::CHECK, expected, found)
 }
 
 // Whether the check calls each of the words p-stable exactly where it is among those listed.
-pub fn agrees_on(p: Program, day: u16, words: &[u32], listed: &[u32]) -> bool {
+pub fn agrees_on(
+    rt: &impl Print,
+    p: Program,
+    day: u16,
+    words: &[u32],
+    listed: &[u32],
+) -> io::Result<bool> {
     let mut k: usize = 0;
     while k < words.len() {
         let w = words[k];
-        if !agrees_at(p, day, w, is_listed(listed, w)) {
-            return false;
+        if !agrees_at(rt, p, day, w, is_listed(listed, w))? {
+            return Ok(false);
         }
         k += 1;
     }
-    true
+    Ok(true)
 }
 
 // A p-stable model lies in no other, so one literal more or less makes it none.
-fn agrees_inside(p: Program, day: u16, words: &[u32]) -> bool {
+fn agrees_inside(rt: &impl Print, p: Program, day: u16, words: &[u32]) -> io::Result<bool> {
     let m = words.len();
     if PLACES < m {
-        return saying::is_number(answers::RECORD, PLACES as u64, m as u64, 0);
+        return saying::is_number(rt, answers::RECORD, PLACES as u64, m as u64, 0);
     }
     let last = LOWEST + AROUND * m;
     let mut j: usize = 0;
@@ -87,38 +94,40 @@ fn agrees_inside(p: Program, day: u16, words: &[u32]) -> bool {
         let w = candidate(words, j);
         let stable = is_listed(words, w);
         if stable | table_fields::is_word(p.atom_count, w) {
-            if !agrees_at(p, day, w, stable) {
-                return false;
+            if !agrees_at(rt, p, day, w, stable)? {
+                return Ok(false);
             }
         }
         j += 1;
     }
-    true
+    Ok(true)
 }
 
-fn is_outside(p: Program, day: u16, w: u32) -> bool {
+fn is_outside(rt: &impl Print, p: Program, day: u16, w: u32) -> io::Result<bool> {
     let refused = answers_made::of_checked(Checked::Refused(program::OUTSIDE_WORD), w as u64);
-    saying::agree(answers::CHECK, refused, asking::check(p, day, w))
+    saying::agree(rt, answers::CHECK, refused, asking::check(p, day, w))
 }
 
-fn sums_up(p: Program, w: u32, verdict: Verdict) -> bool {
+fn sums_up(rt: &impl Print, p: Program, w: u32, verdict: Verdict) -> io::Result<bool> {
     let list = [0, w];
-    summaries::has_verdict(asking::summarize(p, &list), verdict)
+    summaries::has_verdict(rt, asking::summarize(p, &list), verdict)
 }
 
 // Refusal 10: the first word with a bit too high, and the last one, by the check and in a list that is summed up.
-fn agrees_outside(p: Program, day: u16) -> bool {
+fn agrees_outside(rt: &impl Print, p: Program, day: u16) -> io::Result<bool> {
     let atoms = p.atom_count;
     if program::MOST_ATOMS < atoms {
-        return saying::is_number(answers::READER, 12, atoms as u64, 0);
+        return saying::is_number(rt, answers::READER, 12, atoms as u64, 0);
     }
     let first: u32 = 1 << (2 * atoms);
-    is_outside(p, day, first)
-        && is_outside(p, day, FREE)
-        && sums_up(p, first, Verdict::Refused(program::OUTSIDE_WORD))
-        && sums_up(p, 3, Verdict::Accepted)
+    Ok(
+        is_outside(rt, p, day, first)?
+            && is_outside(rt, p, day, FREE)?
+            && sums_up(rt, p, first, Verdict::Refused(program::OUTSIDE_WORD))?
+            && sums_up(rt, p, 3, Verdict::Accepted)?,
+    )
 }
 
-pub fn agrees(p: Program, day: u16, words: &[u32]) -> bool {
-    agrees_inside(p, day, words) && agrees_outside(p, day)
+pub fn agrees(rt: &impl Print, p: Program, day: u16, words: &[u32]) -> io::Result<bool> {
+    Ok(agrees_inside(rt, p, day, words)? && agrees_outside(rt, p, day)?)
 }

@@ -1,6 +1,7 @@
 // A book is weighed on a day, against what is stored for the clauses of that day.
 use crate::{Tried, asking, candidates, checks, fixpoints, saying, searches, texts};
 use program::Program;
+use std::io;
 
 fn wide(n: u32) -> u64 {
     n as u64
@@ -15,42 +16,53 @@ pub fn day_of(n: u32) -> u16 {
 }
 
 // Whether the fixpoint found the models, or was refused by the number that is stored instead of 0.
-fn is_found(tried: Tried, refusal: u64) -> bool {
+fn is_found(rt: &impl Print, tried: Tried, refusal: u64) -> io::Result<bool> {
     match tried {
-        Tried::Agrees => saying::is_number(answers::FIXPOINT, refusal, 0, 0),
-        Tried::Differs => false,
-        Tried::NotAsked(number) => saying::is_number(answers::FIXPOINT, refusal, number, 0),
+        Tried::Agrees => saying::is_number(rt, answers::FIXPOINT, refusal, 0, 0),
+        Tried::Differs => Ok(false),
+        Tried::NotAsked(number) => saying::is_number(rt, answers::FIXPOINT, refusal, number, 0),
     }
 }
 
 // Whether every call that weighs the clauses finds on this day the models and the nodes that are stored, the number of nodes first, and the writer gives this text.
-pub fn weighs(p: Program, day: u16, refusal: u64, text: &[u8], stored: &[u32]) -> bool {
+pub fn weighs(
+    rt: &impl Print,
+    p: Program,
+    day: u16,
+    refusal: u64,
+    text: &[u8],
+    stored: &[u32],
+) -> io::Result<bool> {
     let n = stored.len();
     if n == 0 {
-        return saying::is_number(answers::RECORD, 1, 0, 0);
+        return saying::is_number(rt, answers::RECORD, 1, 0, 0);
     }
     let nodes = wide(stored[0]);
-    searches::is_complete(p, day, nodes, n - 1, &stored[1..n], nodes)
-        && is_found(fixpoints::tried(p, day, &stored[1..n]), refusal)
-        && candidates::agrees(p, day, &stored[1..n])
-        && texts::is_text_of(p, text)
+    Ok(
+        searches::is_complete(rt, p, day, nodes, n - 1, &stored[1..n], nodes)?
+            && is_found(rt, fixpoints::tried(rt, p, day, &stored[1..n])?, refusal)?
+            && candidates::agrees(rt, p, day, &stored[1..n])?
+            && texts::is_text_of(rt, p, text)?,
+    )
 }
 
 // The numbers are a day, the refusal of the fixpoint or 0, how many models there are, the nodes, the models, and candidates with what the check finds.
-pub fn agrees(text: &[u8], numbers: &[u32]) -> bool {
+pub fn agrees(rt: &impl Print, text: &[u8], numbers: &[u32]) -> io::Result<bool> {
     let m = numbers.len();
     if m < 4 {
-        return saying::is_number(answers::RECORD, 4, m as u64, 0);
+        return saying::is_number(rt, answers::RECORD, 4, m as u64, 0);
     }
     let count = wide(numbers[2]) as usize;
     if m - 4 < count {
-        return saying::is_number(answers::RECORD, m as u64, count as u64, 2);
+        return saying::is_number(rt, answers::RECORD, m as u64, count as u64, 2);
     }
     let end = 4 + count;
     let day = day_of(numbers[0]);
     let p = asking::table_of(text);
-    texts::agrees(text)
-        && searches::agrees(p, day, &numbers[4..end])
-        && weighs(p, day, wide(numbers[1]), text, &numbers[3..end])
-        && checks::agrees(p, day, &numbers[end..m])
+    Ok(
+        texts::agrees(rt, text)?
+            && searches::agrees(rt, p, day, &numbers[4..end])?
+            && weighs(rt, p, day, wide(numbers[1]), text, &numbers[3..end])?
+            && checks::agrees(rt, p, day, &numbers[end..m])?,
+    )
 }

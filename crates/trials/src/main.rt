@@ -3,6 +3,8 @@
 // A line for each family says how many were tried and how many agree.
 // What is asked of a book stands in a file for each family, and the calls themselves in `asking`.
 // The first disagreement is printed with both answers and its record's label, and ends the program.
+#![tactic(auto)]
+
 mod asking;
 mod candidates;
 mod checks;
@@ -15,11 +17,13 @@ mod searches;
 mod summaries;
 mod texts;
 
-ghost use Rattle.std.specs.Prelude.{◌≡◌, ◌<◌, ◌≤◌, length};
-ghost use Rattle.io.specs.Counts.{IsPrefixLen};
+ghost use Rattle.std.specs.Prelude.{◌≡◌, ◌<◌, ◌≤◌, length, IfOk};
+ghost use Rattle.std.specs.Io.{ReadsAtMost};
 
 use answers::{FREE, PLACES};
 use asking::ANY_DAY;
+use std::io;
+use std::rt::Files;
 
 // A record's outcome; what is not asked is a call that is refused so.
 #[derive(Drop)]
@@ -30,7 +34,7 @@ enum Tried {
 }
 
 // The calls that a book is put to.
-#[derive(Drop)]
+#[derive(Clone, Copy)]
 enum Family {
     Texts,
     Searches,
@@ -61,19 +65,19 @@ fn tried_if(agrees: bool) -> Tried {
     Tried::Differs
 }
 
-fn ask(family: Family, text: &[u8], words: &[u32]) -> Tried {
+fn ask(rt: &impl Print, family: Family, text: &[u8], words: &[u32]) -> io::Result<Tried> {
     let p = asking::table_of(text);
-    match family {
-        Family::Texts => tried_if(texts::agrees(text)),
-        Family::Searches => tried_if(searches::agrees(p, ANY_DAY, words)),
-        Family::Fixpoints => fixpoints::tried(p, ANY_DAY, words),
-        Family::Candidates => tried_if(candidates::agrees(p, ANY_DAY, words)),
-        Family::Summaries => tried_if(summaries::agrees(p, words)),
-        Family::Checks => tried_if(checks::agrees(p, ANY_DAY, words)),
-        Family::Nodes => tried_if(nodes::agrees(p, words)),
-        Family::Days => tried_if(days::agrees(text, words)),
-        Family::Holdings => tried_if(holdings::agrees(text, words)),
-    }
+    Ok(match family {
+        Family::Texts => tried_if(texts::agrees(rt, text)?),
+        Family::Searches => tried_if(searches::agrees(rt, p, ANY_DAY, words)?),
+        Family::Fixpoints => fixpoints::tried(rt, p, ANY_DAY, words)?,
+        Family::Candidates => tried_if(candidates::agrees(rt, p, ANY_DAY, words)?),
+        Family::Summaries => tried_if(summaries::agrees(rt, p, words)?),
+        Family::Checks => tried_if(checks::agrees(rt, p, ANY_DAY, words)?),
+        Family::Nodes => tried_if(nodes::agrees(rt, p, words)?),
+        Family::Days => tried_if(days::agrees(rt, text, words)?),
+        Family::Holdings => tried_if(holdings::agrees(rt, text, words)?),
+    })
 }
 
 // ---- what is lent
@@ -107,13 +111,19 @@ fn read_words(line: &[u8], words: &mut [u32]) -> usize
 }
 
 // A record that the file's end cuts disagrees.
-fn try_book(family: Family, whole: bool, text: &[u8], line: &[u8]) -> Tried {
+fn try_book(
+    rt: &impl Print,
+    family: Family,
+    whole: bool,
+    text: &[u8],
+    line: &[u8],
+) -> io::Result<Tried> {
     if !whole {
-        return tried_if(saying::is_number(answers::RECORD, 1, 0, 0));
+        return Ok(tried_if(saying::is_number(rt, answers::RECORD, 1, 0, 0)?));
     }
     let mut words = [FREE; PLACES];
     let n = read_words(line, &mut words);
-    ask(family, text, &words[START..n])
+    ask(rt, family, text, &words[START..n])
 }
 
 // What a record gives: whether it disagrees, what it counts, and where the next begins.
@@ -146,10 +156,10 @@ fn step_to(tried: Tried, next: usize) -> Step
     }
 }
 
-fn try_record(family: Family, file: &[u8], at: usize) -> Step
+fn try_record(rt: &impl Print, family: Family, file: &[u8], at: usize) -> io::Result<Step>
     requires { at < length file.now }
-    ensures at_lt_next { at < result.next }
-    ensures next_in_bounds { result.next ≤ length file.now }
+    ensures at_lt_next { IfOk result (λ step. at < step.next) }
+    ensures next_in_bounds { IfOk result (λ step. step.next ≤ length file.now) }
 {
     let r = records::record_at(file, at);
     let text = r.text;
@@ -157,123 +167,131 @@ fn try_record(family: Family, file: &[u8], at: usize) -> Step
     let line = r.line;
     let line_end = r.line_end;
     let tried = try_book(
+        rt,
         family,
         r.whole,
         &file[text..text_end],
         &file[line..line_end],
-    );
-    step_to(tried, r.next)
+    )?;
+    Ok(step_to(tried, r.next))
 }
 
-fn print_label(file: &[u8], at: usize)
+fn print_label(rt: &impl Print, file: &[u8], at: usize) -> io::Result<()>
     requires { at < length file.now }
 {
     let r = records::record_at(file, at);
     let end = r.label_end;
-    saying::print(b", at ");
-    saying::print(&file[at..end]);
-    saying::print(b"\n");
+    saying::print(rt, b", at ")?;
+    saying::print(rt, &file[at..end])?;
+    saying::print(rt, b"\n")
 }
 
 // How many records agree; none where one does not.
-fn count_agreeing(family: Family, file: &[u8]) -> u64 {
+fn count_agreeing(rt: &impl Print, family: Family, file: &[u8]) -> io::Result<u64> {
     let mut at: usize = 0;
     let mut n: u64 = 0;
     while at < file.len() {
-        let step = try_record(family, file, at);
+        let step = try_record(rt, family, file, at)?;
         if step.differs {
-            print_label(file, at);
-            return 0;
+            print_label(rt, file, at)?;
+            return Ok(0);
         }
         n = std::num::wrapping_add_u64(n, step.counts);
         at = step.next;
     }
-    n
+    Ok(n)
 }
 
 // ---- files
 // The number of records that agree, 0 where one does not and the family was stopped.
-fn print_counts(agree: u64) -> bool {
+fn print_counts(rt: &impl Print, agree: u64) -> io::Result<bool> {
     if agree == 0 {
-        saying::print(b"stopped\n");
-        return false;
+        saying::print(rt, b"stopped\n")?;
+        return Ok(false);
     }
-    saying::print_number(agree);
-    saying::print(b" tried, ");
-    saying::print_number(agree);
-    saying::print(b" agree\n");
-    true
+    saying::print_number(rt, agree)?;
+    saying::print(rt, b" tried, ")?;
+    saying::print_number(rt, agree)?;
+    saying::print(rt, b" agree\n")?;
+    Ok(true)
 }
 
 // Tries a family on the records of a file; `asked` says what is asked of them.
-fn try_family(family: Family, asked: &[u8], file: &[u8]) -> bool {
-    let agree = count_agreeing(family, file);
-    saying::print(asked);
-    print_counts(agree)
+fn try_family(rt: &impl Print, family: Family, asked: &[u8], file: &[u8]) -> io::Result<bool> {
+    let agree = count_agreeing(rt, family, file)?;
+    saying::print(rt, asked)?;
+    print_counts(rt, agree)
 }
 
-fn try_families(file: &[u8]) -> bool {
-    try_family(Family::Texts, b"  read and written back: ", file)
-        && try_family(Family::Searches, b"  searched: ", file)
-        && try_family(Family::Fixpoints, b"  by the fixpoint: ", file)
-        && try_family(Family::Candidates, b"  candidates checked: ", file)
+fn try_families(rt: &impl Print, file: &[u8]) -> io::Result<bool> {
+    Ok(
+        try_family(rt, Family::Texts, b"  read and written back: ", file)?
+            && try_family(rt, Family::Searches, b"  searched: ", file)?
+            && try_family(rt, Family::Fixpoints, b"  by the fixpoint: ", file)?
+            && try_family(rt, Family::Candidates, b"  candidates checked: ", file)?,
+    )
 }
 
-// The file's bytes at the start of `file`; their number, 0 where it cannot be opened.
-fn read(path: &[u8], file: &mut [u8]) -> usize
-    ensures { IsPrefixLen result file.new }
+// The file's bytes at the start of `file`; their number.
+fn read(files: &impl Files, path: &str, file: &mut [u8]) -> io::Result<usize>
+    ensures { ReadsAtMost result file.new }
 {
-    let fd = os::open_read(path);
-    if fd < 0 {
-        os::fail(path);
-        return 0;
-    }
-    let n = io::read_full(fd, file);
-    libc::close(fd);
-    n
+    inputs::read_file(files, path, file)
 }
 
-fn try_stored(stored: Stored, file: &[u8]) -> bool {
+fn try_stored(rt: &impl Print, stored: Stored, file: &[u8]) -> io::Result<bool> {
     match stored {
-        Stored::Models => try_families(file),
-        Stored::Summaries => try_family(Family::Summaries, b"  summed up: ", file),
-        Stored::Checks => try_family(Family::Checks, b"  checks, with clause and subset: ", file),
-        Stored::Nodes => try_family(Family::Nodes, b"  nodes counted: ", file),
-        Stored::Days => try_family(Family::Days, b"  weighed on a day: ", file),
-        Stored::Holdings => try_family(Family::Holdings, b"  held, let go and kept: ", file),
+        Stored::Models => try_families(rt, file),
+        Stored::Summaries => try_family(rt, Family::Summaries, b"  summed up: ", file),
+        Stored::Checks => try_family(
+            rt,
+            Family::Checks,
+            b"  checks, with clause and subset: ",
+            file,
+        ),
+        Stored::Nodes => try_family(rt, Family::Nodes, b"  nodes counted: ", file),
+        Stored::Days => try_family(rt, Family::Days, b"  weighed on a day: ", file),
+        Stored::Holdings => try_family(rt, Family::Holdings, b"  held, let go and kept: ", file),
     }
 }
 
 // The largest file, the solver's books, has 237,618 bytes.
-fn try_file(path: &[u8], stored: Stored) -> bool {
+fn try_file(rt: &(impl Files + Print), path: &str, stored: Stored) -> io::Result<bool> {
     let mut file = [0u8; 262144];
-    let n = read(path, &mut file);
-    saying::print(path);
-    saying::print(b"\n");
-    try_stored(stored, &file[..n])
+    let n = read(rt, path, &mut file)?;
+    saying::print(rt, path.as_bytes())?;
+    saying::print(rt, b"\n")?;
+    try_stored(rt, stored, &file[..n])
 }
 
 // Document 01's samples, the paper's examples, and random books with the models that an outside solver gives.
-fn try_books() -> bool {
-    try_file(b"samples", Stored::Models)
-        && try_file(b"paper", Stored::Models)
-        && try_file(b"solver", Stored::Models)
+fn try_books(rt: &(impl Files + Print)) -> io::Result<bool> {
+    Ok(
+        try_file(rt, "samples", Stored::Models)?
+            && try_file(rt, "paper", Stored::Models)?
+            && try_file(rt, "solver", Stored::Models)?,
+    )
 }
 
 // Lists with their summaries, candidates with their answers, trees with their counts.
-fn try_calls() -> bool {
-    try_file(b"summaries", Stored::Summaries)
-        && try_file(b"checks", Stored::Checks)
-        && try_file(b"nodes", Stored::Nodes)
+fn try_calls(rt: &(impl Files + Print)) -> io::Result<bool> {
+    Ok(
+        try_file(rt, "summaries", Stored::Summaries)?
+            && try_file(rt, "checks", Stored::Checks)?
+            && try_file(rt, "nodes", Stored::Nodes)?,
+    )
 }
 
 // Dated books with days, clauses to hold, and constraints to keep.
-fn try_clauses() -> bool {
-    try_file(b"days", Stored::Days)
-        && try_file(b"holdings", Stored::Holdings)
-        && try_file(b"constraints", Stored::Holdings)
+fn try_clauses(rt: &(impl Files + Print)) -> io::Result<bool> {
+    Ok(
+        try_file(rt, "days", Stored::Days)?
+            && try_file(rt, "holdings", Stored::Holdings)?
+            && try_file(rt, "constraints", Stored::Holdings)?,
+    )
 }
 
-fn main() {
-    let _ = try_books() && try_calls() && try_clauses();
+fn main(rt: HostRuntime) -> io::Result<()> {
+    let _ = try_books(&rt)? && try_calls(&rt)? && try_clauses(&rt)?;
+    Ok(())
 }

@@ -4,6 +4,7 @@ ghost use Rattle.std.specs.Prelude.{◌≤◌, length};
 use crate::{START, asking, saying};
 use answers::{ANY, Answer, FREE, PLACES};
 use program::{Outcome, Program};
+use std::io;
 
 // Whether `w` is the last word over so many atoms.
 fn is_last(w: u32, atoms: usize) -> bool {
@@ -28,70 +29,85 @@ fn before_last(words: &[u32], atoms: usize) -> usize
 }
 
 // Whether the search answers as expected with so many nodes and places, and lists the words.
-fn lists(p: Program, day: u16, limit: u64, lent: usize, words: &[u32], expected: Answer) -> bool {
+fn lists(
+    rt: &impl Print,
+    p: Program,
+    day: u16,
+    limit: u64,
+    lent: usize,
+    words: &[u32],
+    expected: Answer,
+) -> io::Result<bool> {
     let mut list = [FREE; PLACES];
     let n = lists::least(lent, PLACES);
     let found = asking::search(p, day, limit, &mut list[START..n]);
-    saying::agree(answers::SEARCH, expected, found) && saying::holds(&list, words)
+    Ok(saying::agree(rt, answers::SEARCH, expected, found)? && saying::holds(rt, &list, words)?)
 }
 
-fn is_spent(p: Program, day: u16, limit: u64, words: &[u32]) -> bool {
+fn is_spent(rt: &impl Print, p: Program, day: u16, limit: u64, words: &[u32]) -> io::Result<bool> {
     let expected = answers_made::of_outcome(Outcome::Spent, words.len() as u64, limit);
-    lists(p, day, limit, PLACES, words, expected)
+    lists(rt, p, day, limit, PLACES, words, expected)
 }
 
-fn is_full(p: Program, day: u16, limit: u64, words: &[u32]) -> bool {
+fn is_full(rt: &impl Print, p: Program, day: u16, limit: u64, words: &[u32]) -> io::Result<bool> {
     let expected = answers_made::of_outcome(Outcome::Full, words.len() as u64, ANY);
-    lists(p, day, limit, words.len(), words, expected)
+    lists(rt, p, day, limit, words.len(), words, expected)
 }
 
 // Whether the search is complete with so many nodes and places, and lists the words.
 pub fn is_complete(
+    rt: &impl Print,
     p: Program,
     day: u16,
     limit: u64,
     lent: usize,
     words: &[u32],
     nodes: u64,
-) -> bool {
+) -> io::Result<bool> {
     let expected = answers_made::of_outcome(Outcome::Complete, words.len() as u64, nodes);
-    lists(p, day, limit, lent, words, expected)
+    lists(rt, p, day, limit, lent, words, expected)
 }
 
 // The runs that are cut: one node less than the tree has, one place less than there are models, no place.
-fn agrees_cut(p: Program, day: u16, nodes: u64, words: &[u32]) -> bool {
+fn agrees_cut(
+    rt: &impl Print,
+    p: Program,
+    day: u16,
+    nodes: u64,
+    words: &[u32],
+) -> io::Result<bool> {
     let m = words.len();
     let n = before_last(words, p.atom_count);
     if nodes == 0 {
-        return has_nodes(p, day, 1);
+        return has_nodes(rt, p, day, 1);
     }
-    if !is_spent(p, day, nodes - 1, &words[START..n]) {
-        return false;
+    if !is_spent(rt, p, day, nodes - 1, &words[START..n])? {
+        return Ok(false);
     }
     if m == 0 {
-        return true;
+        return Ok(true);
     }
-    is_full(p, day, nodes, &words[START..m - 1]) && is_full(p, day, ANY, &[])
+    Ok(is_full(rt, p, day, nodes, &words[START..m - 1])? && is_full(rt, p, day, ANY, &[])?)
 }
 
 // A book of more than ten names is searched to its end just twice.
-pub fn agrees(p: Program, day: u16, words: &[u32]) -> bool {
+pub fn agrees(rt: &impl Print, p: Program, day: u16, words: &[u32]) -> io::Result<bool> {
     let nodes = asking::nodes_of(p, day);
-    let few = is_spent(p, day, 0, &[])
-        && is_spent(p, day, 1, &[])
-        && is_complete(p, day, nodes, words.len(), words, nodes);
+    let few = is_spent(rt, p, day, 0, &[])?
+        && is_spent(rt, p, day, 1, &[])?
+        && is_complete(rt, p, day, nodes, words.len(), words, nodes)?;
     if !few | (10 < p.atom_count) {
-        return few;
+        return Ok(few);
     }
-    is_complete(p, day, ANY, PLACES, words, nodes) && agrees_cut(p, day, nodes, words)
+    Ok(is_complete(rt, p, day, ANY, PLACES, words, nodes)? && agrees_cut(rt, p, day, nodes, words)?)
 }
 
 // Whether the search lists just these words and says that they are all.
-pub fn lists_all(p: Program, day: u16, words: &[u32]) -> bool {
-    is_complete(p, day, ANY, PLACES, words, ANY)
+pub fn lists_all(rt: &impl Print, p: Program, day: u16, words: &[u32]) -> io::Result<bool> {
+    is_complete(rt, p, day, ANY, PLACES, words, ANY)
 }
 
 // Whether the tree has so many nodes.
-fn has_nodes(p: Program, day: u16, nodes: u64) -> bool {
-    saying::is_number(answers::SEARCH, nodes, asking::nodes_of(p, day), 0)
+fn has_nodes(rt: &impl Print, p: Program, day: u16, nodes: u64) -> io::Result<bool> {
+    saying::is_number(rt, answers::SEARCH, nodes, asking::nodes_of(p, day), 0)
 }

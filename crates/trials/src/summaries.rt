@@ -3,6 +3,7 @@ use crate::asking::ANY_DAY;
 use crate::{START, asking, saying, searches};
 use answers::FREE;
 use program::{MOST_ATOMS, Program, Verdict};
+use std::io;
 use summary::Summary;
 
 fn wide(n: u32) -> u64 {
@@ -18,7 +19,7 @@ fn stored_at(numbers: &[u32], k: usize) -> u64 {
 }
 
 // Whether a summary shows these values and settles the names with a 1: a name without a number shows none and is not settled.
-fn shows(s: Summary, values: &[u32], settled: &[u32]) -> bool {
+fn shows(rt: &impl Print, s: Summary, values: &[u32], settled: &[u32]) -> io::Result<bool> {
     let shown = s.occurring;
     let flags = s.settled;
     let mut i: usize = 0;
@@ -29,17 +30,18 @@ fn shows(s: Summary, values: &[u32], settled: &[u32]) -> bool {
             stored_at(settled, i),
         );
         let found = answers_made::made(answers::NUMBER, shown[i] as u64, flags[i] as u64);
-        if !saying::agree(answers::SUMMARY, expected, found) {
-            return false;
+        if !saying::agree(rt, answers::SUMMARY, expected, found)? {
+            return Ok(false);
         }
         i += 1;
     }
-    true
+    Ok(true)
 }
 
-pub fn has_verdict(s: Summary, verdict: Verdict) -> bool {
+pub fn has_verdict(rt: &impl Print, s: Summary, verdict: Verdict) -> io::Result<bool> {
     let found = s.verdict;
     saying::agree(
+        rt,
         answers::SUMMARY,
         answers_made::of_verdict(verdict, 0),
         answers_made::of_verdict(found, 0),
@@ -47,41 +49,54 @@ pub fn has_verdict(s: Summary, verdict: Verdict) -> bool {
 }
 
 // Whether the list is summed up so.
-fn is_summed(p: Program, list: &[u32], verdict: Verdict, values: &[u32], settled: &[u32]) -> bool {
+fn is_summed(
+    rt: &impl Print,
+    p: Program,
+    list: &[u32],
+    verdict: Verdict,
+    values: &[u32],
+    settled: &[u32],
+) -> io::Result<bool> {
     let s = asking::summarize(p, list);
-    has_verdict(s, verdict) && shows(s, values, settled)
+    Ok(has_verdict(rt, s, verdict)? && shows(rt, s, values, settled)?)
 }
 
 // An empty list, and one with a word outside the names.
-fn agrees_bare(p: Program) -> bool {
-    is_summed(p, &[], Verdict::Accepted, &[], &[])
-        && is_summed(
-            p,
-            &[FREE],
-            Verdict::Refused(program::OUTSIDE_WORD),
-            &[],
-            &[],
-        )
+fn agrees_bare(rt: &impl Print, p: Program) -> io::Result<bool> {
+    Ok(
+        is_summed(rt, p, &[], Verdict::Accepted, &[], &[])?
+            && is_summed(
+                rt,
+                p,
+                &[FREE],
+                Verdict::Refused(program::OUTSIDE_WORD),
+                &[],
+                &[],
+            )?,
+    )
 }
 
 // The numbers are the values of each name, 1 for each name that is settled and 0 for another, and the list: of a book with clauses its models.
-pub fn agrees(p: Program, numbers: &[u32]) -> bool {
+pub fn agrees(rt: &impl Print, p: Program, numbers: &[u32]) -> io::Result<bool> {
     let n = p.atom_count;
     let m = numbers.len();
     if MOST_ATOMS < n {
-        return saying::is_number(answers::READER, MOST_ATOMS as u64, n as u64, 0);
+        return saying::is_number(rt, answers::READER, MOST_ATOMS as u64, n as u64, 0);
     }
     if m < 2 * n {
-        return saying::is_number(answers::RECORD, 2 * n as u64, m as u64, 0);
+        return saying::is_number(rt, answers::RECORD, 2 * n as u64, m as u64, 0);
     }
-    if (0 < p.clause_count) && !searches::lists_all(p, ANY_DAY, &numbers[2 * n..m]) {
-        return false;
+    if (0 < p.clause_count) && !searches::lists_all(rt, p, ANY_DAY, &numbers[2 * n..m])? {
+        return Ok(false);
     }
-    is_summed(
-        p,
-        &numbers[2 * n..m],
-        Verdict::Accepted,
-        &numbers[START..n],
-        &numbers[n..2 * n],
-    ) && agrees_bare(p)
+    Ok(
+        is_summed(
+            rt,
+            p,
+            &numbers[2 * n..m],
+            Verdict::Accepted,
+            &numbers[START..n],
+            &numbers[n..2 * n],
+        )? && agrees_bare(rt, p)?,
+    )
 }

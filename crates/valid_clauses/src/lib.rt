@@ -1,4 +1,6 @@
 // Refusal 9, the clauses of a table; refusal 17 asks the same of one clause.
+#![tactic(auto)]
+
 ghost use Rattle.std.specs.Prelude.{◌≡◌, ◌≤◌};
 ghost use Rattle.sets.specs.Lists.{every, tabulate};
 ghost use Rattle.program.specs.Clauses.{clause_of, clause_at};

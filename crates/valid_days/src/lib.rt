@@ -1,4 +1,6 @@
 // Refusal 9, the days of a table and its separate place.
+#![tactic(auto)]
+
 ghost use Rattle.std.specs.Prelude.{◌≡◌};
 ghost use Rattle.program.specs.Valid.{days_fit, days_valid, held_valid};
 

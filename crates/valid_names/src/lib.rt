@@ -1,4 +1,6 @@
 // Refusal 9, the names of a table: each place in use holds one, no two are equal, and the rest is zero.
+#![tactic(auto)]
+
 ghost use Rattle.std.specs.Prelude.{◌≡◌, ◌+◌, ◌≤◌, ◌<◌, take};
 ghost use Rattle.sets.specs.Lists.{every, any_of, onward, tabulate};
 ghost use Rattle.lists.specs.Bytes.{index, same, distinct};

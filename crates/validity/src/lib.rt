@@ -1,4 +1,6 @@
 // The test of refusal 9: whether the reader could give a table, but for a clause that it may hold.
+#![tactic(auto)]
+
 ghost use Rattle.std.specs.Prelude.{◌≡◌};
 ghost use Rattle.program.specs.Valid.{valid};
 

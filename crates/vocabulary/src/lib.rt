@@ -1,4 +1,6 @@
 // W: how many members the vocabulary of the transform of a table's clauses has.
+#![tactic(auto)]
+
 ghost use Rattle.std.specs.Prelude.{◌≡◌, true, ◌*◌, ◌≤◌, length};
 ghost use Rattle.sets.specs.Lists.{tabulate};
 ghost use Rattle.program.specs.Clauses.{clause_of, clause_at, standing};

@@ -1,4 +1,6 @@
 // A line of a word and of numbers behind it at the front of a lent slice: of an outcome, of a refusal.
+#![tactic(auto)]
+
 ghost use Rattle.std.specs.Prelude.{[], ◌∷◌, ◌++◌, ◌≤◌, length, take};
 ghost use Rattle.lists.specs.Bytes.{Wrote};
 ghost use Rattle.text.specs.Lines.{values_line};

@@ -1,4 +1,6 @@
 // The writer: a program's text in a lent slice.
+#![tactic(auto)]
+
 ghost use Rattle.std.specs.Prelude.{◌≡◌, true, ◌≤◌, length};
 ghost use Rattle.sets.specs.Lists.{tabulate};
 ghost use Rattle.lists.specs.Bytes.{Wrote};

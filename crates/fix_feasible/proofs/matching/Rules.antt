@@ -8,4 +8,4 @@ use Rattle.literals.proofs.Literals.{low_less}
 pub place-small : (x : ℕ) → bit_and x 63 < 64
 place-small x = omega (arith, and_le_r x 63)
 
-pub ruleset rules = (place-small, low_less, rules)
+pub ruleset laws = (place-small, low_less, rules)

@@ -1,0 +1,15 @@
+-- `lines::put_number_item`: the byte behind the number is put behind what was written. Assumes nothing.
+use Rattle.lines.proofs.Laying.{first_fits, byte_fits, byte_at, byte_wrote}
+use Rattle.lines.proofs.put_number_item.Goals as goal
+
+pub put_decimal-k-requires : goal.put_decimal-k-requires
+put_decimal-k-requires c = search first_fits
+
+pub bounds-out-k : goal.bounds-out-k
+bounds-out-k c = search byte_at
+
+pub overflow_add-result : goal.overflow_add-result
+overflow_add-result c = search byte_fits
+
+pub returns : goal.returns
+returns c = search byte_wrote

@@ -1,0 +1,6 @@
+-- The not-part, `m` places up. Assumes nothing.
+use Rattle.rewriting.proofs.Becoming.{beliefs_are}
+use Rattle.rewriting.proofs.beliefs.Goals as goal
+
+pub returns : goal.returns
+returns c = search beliefs_are

@@ -1,0 +1,10 @@
+-- `search_support::some_unsupported` meets its contract: no literal that is passed lacks support, the loop law of a set's members. Assumes nothing.
+use Rattle.leaf.specs.Packed.{packed_at}
+use Rattle.node.proofs.Asking.{Lacking}
+use Rattle.search_support.proofs.some_unsupported.Given as goal
+
+abbrev pub invariant-loop-left : goal.invariant-loop-left
+invariant-loop-left l = Lacking (packed_at l.table) l.count l.k l.w l.play l.left l.rows
+
+abbrev pub decreases-loop-left : goal.decreases-loop-left
+decreases-loop-left l = l.left
