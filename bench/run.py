@@ -5,13 +5,13 @@ make that up, since of a shorter one the ratio says nothing. Compared with plain
 books/ and, for three of them, the check of the word of all twenty-four literals. Then the report against clingo (Debian's package gringo),
 asked for 4,097 models of the positive form: wall clock of the whole process, the least of ten, on the same books and on random ones; where
 clingo is a bar, the report takes at most 0.7 of its time.
-Then the fixpoint of each book of stages/, by target/bin/pstable with 65,536 words in each working slice, against a limit in seconds,
+Then the fixpoint of each book of stages/, by crates/pstable/out/pstable with 65,536 words in each working slice, against a limit in seconds,
 and compared with stages.c, at most 1.5 times its time;
 and the tools that look for what the documents name. With books named, only their reports are compared with C.
 With --against PROGRAM only the report and another build of it, as that of an earlier commit, are compared, on the books of a million nodes
 and more: on none slower by more than a tenth, and faster in their sum. With --against-stages PROGRAM only the fixpoint by pstable and by an
 earlier build of it are compared, on three books of stages/: on each at least five times faster.
-From the repository's root: rt check report pstable && python3 bench/run.py [RUNS [BOOK .. | --against PROGRAM | --against-stages PROGRAM]]"""
+From the repository's root, behind an rt run in crates/report and one in crates/pstable: python3 bench/run.py [RUNS [BOOK .. | --against PROGRAM | --against-stages PROGRAM]]"""
 import os
 import random
 import resource
@@ -24,10 +24,11 @@ here = os.path.dirname(os.path.abspath(__file__))
 sys.path.append(os.path.join(here, "..", "tools"))
 sys.dont_write_bytecode = True
 import make_trials
-report = os.path.join(here, "..", "target", "bin", "report")
-pstable = os.path.join(here, "..", "target", "bin", "pstable")
+report = os.path.join(here, "..", "crates", "report", "out", "report")
+pstable = os.path.join(here, "..", "crates", "pstable", "out", "pstable")
 plain = os.path.join(here, "..", "target", "plain_c")
 plain_stages = os.path.join(here, "..", "target", "stages_c")
+os.makedirs(os.path.dirname(plain), exist_ok=True)
 runs = int(sys.argv[1]) if len(sys.argv) > 1 else 5
 # the time that one turn takes at least, in seconds
 SHORTEST = 0.02

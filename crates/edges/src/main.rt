@@ -8,7 +8,7 @@ mod refusals;
 mod rooms;
 mod saying;
 mod tables;
-mod vocabulary;
+mod vocabularies;
 
 ghost use Rattle.std.specs.Prelude.{◌<◌, ◌≤◌, length, IfOk};
 ghost use Rattle.std.specs.Io.{ReadsAtMost};
@@ -30,7 +30,7 @@ fn ask(rt: &impl Print, edge: Edge, text: &[u8], line: &[u8]) -> io::Result<bool
     match edge {
         Edge::Refusals => refusals::agrees(rt, text, first.value),
         Edge::Tables => tables::agrees(rt, text, line),
-        Edge::Vocabulary => vocabulary::agrees(rt, text, first.value),
+        Edge::Vocabulary => vocabularies::agrees(rt, text, first.value),
         Edge::Rooms => rooms::agrees(rt, text, first.value),
     }
 }
