@@ -54,27 +54,19 @@ pub const CLEARED: u64 = 110;
 
 pub const NOTHING_HELD: u64 = 111;
 
-// ---- what gave an answer: a call, or a slice that was lent to it
-pub const READER: usize = 0;
-
-pub const WRITER: usize = 1;
-
-pub const SEARCH: usize = 2;
-
-pub const FIXPOINT: usize = 3;
-
-pub const CHECK: usize = 4;
-
-pub const SUMMARY: usize = 5;
-
-pub const LIST: usize = 6;
-
-pub const TEXT: usize = 7;
-
-pub const RECORD: usize = 8;
-
-pub const HOLD: usize = 9;
-
-pub const KEEP: usize = 10;
-
-pub const RELEASE: usize = 11;
+// What gave an answer: a call, or a slice that was lent to it.
+#[derive(Clone, Copy)]
+pub enum Source {
+    Reader,
+    Writer,
+    Search,
+    Fixpoint,
+    Check,
+    Summary,
+    List,
+    Text,
+    Record,
+    Hold,
+    Keep,
+    Release,
+}

@@ -9,55 +9,42 @@ use answers::{Answer, Difference};
 fn allows(expected: u64, found: u64) -> bool
     ensures { result ≡ allowing expected found }
 {
-    (expected == answers::ANY) | (expected == found)
+    expected == answers::ANY || expected == found
 }
 
 // Whether an answer is as expected.
 pub fn agree(expected: Answer, found: Answer) -> bool
     ensures { result ≡ agreeing expected found }
 {
-    (expected.outcome == found.outcome)
-        & allows(expected.first, found.first)
-        & allows(expected.second, found.second)
+    expected.outcome == found.outcome
+        && allows(expected.first, found.first)
+        && allows(expected.second, found.second)
 }
 
 // ---- what was lent
-fn wide(w: u32) -> u64
-    ensures { result ≡ w }
-{
-    w as u64
-}
-
 fn word_at(words: &[u32], k: usize) -> u64
     ensures { result ≡ get_or words.now k 4294967295 }
 {
-    if words.len() <= k {
-        return answers::FREE as u64;
-    }
-    wide(words[k])
+    u64::from(words.get(k).copied().unwrap_or(answers::FREE))
 }
 
+#[tactic(auto, unfolding(answers::specs::Answers::held_at))]
 fn held_at(list: &[u32; answers::PLACES], k: usize) -> u64
     ensures { result ≡ held_at list.now k }
 {
-    if answers::PLACES <= k {
-        return answers::FREE as u64;
-    }
-    wide(list[k])
+    u64::from(list.get(k).copied().unwrap_or(answers::FREE))
 }
 
 // The first place where the list holds another word than it should; its length where there is none.
 fn first_other(list: &[u32; answers::PLACES], words: &[u32]) -> usize
     ensures { result ≡ first_other words.now list.now }
 {
-    let mut k: usize = 0;
-    while k < answers::PLACES {
+    for k in 0..answers::PLACES {
         if held_at(list, k) != word_at(words, k) {
             return k;
         }
-        k += 1;
     }
-    k
+    answers::PLACES
 }
 
 // What a list should hold, the words and free places behind them, and what it holds, at the first place where these differ; behind the list where they do not.

@@ -11,7 +11,7 @@ ghost use Rattle.semantics.specs.Interpretations.{least_smaller};
 fn next_subset(word: u32, j: u32) -> u32
     ensures { result ≡ next_subset 32 word j }
 {
-    std::num::wrapping_sub_u32(j, word) & word
+    j.wrapping_sub(word) & word
 }
 
 // The least proper subset of `candidate` that satisfies the reduct by it; `candidate` where there is none.
@@ -25,7 +25,8 @@ pub fn least_smaller<'a>(
     requires { count ≤ 64 }
     ensures { result ≡ least_smaller (tabulate (clause_at heads.now bodies.now nafs.now) count) candidate }
 {
-    let mut j: u32 = 0;
+    let mut j = 0;
+    // A `while`: the next subset is not the next number.
     while j < candidate {
         if check_violated::first_violated(heads, bodies, nafs, count, candidate, j) == count {
             return j;

@@ -10,9 +10,11 @@ ghost use Rattle.semantics.specs.Interpretations.{violates, violated_at};
 ghost use Rattle.stable.specs.Check.{violated_in};
 
 // Whether the reduct by `by` keeps the clause and `w` violates what it keeps.
+#[tactic(auto, unfolding(semantics::specs::Interpretations::violates))]
 pub fn violates_clause(head: u32, body: u32, naf: u32, by: u32, w: u32) -> bool
     ensures { result ≡ violates by w (clause_of head body naf) }
 {
+    // `&`: one test, since three are three branches.
     (body & w == body) & (naf & by == 0) & (head & w == 0)
 }
 
@@ -28,12 +30,10 @@ pub fn first_violated<'a>(
     requires { count ≤ 64 }
     ensures { result ≡ least (violated_at (tabulate (clause_at heads.now bodies.now nafs.now) count) by w) count }
 {
-    let mut k: usize = 0;
-    while k < count {
+    for k in 0..count {
         if violates_clause(heads[k], bodies[k], nafs[k], by, w) {
             return k;
         }
-        k += 1;
     }
     count
 }
@@ -43,7 +43,7 @@ fn violates_row(rows: u64, k: usize, head: u32, body: u32, naf: u32, w: u32) -> 
     requires { k < 64 }
     ensures { result ≡ bit rows k && violates w w (clause_of head body naf) }
 {
-    ((rows >> k) & 1 == 1) & violates_clause(head, body, naf, w, w)
+    (rows >> k) & 1 == 1 && violates_clause(head, body, naf, w, w)
 }
 
 // The least number of a row of the set `rows` whose clause `w` violates; `count` where there is none.
@@ -58,12 +58,10 @@ pub fn first_violated_row<'a>(
     requires { count ≤ 64 }
     ensures { result ≡ least (violated_in (bit rows) (clause_at heads.now bodies.now nafs.now) w) count }
 {
-    let mut row: usize = 0;
-    while row < count {
+    for row in 0..count {
         if violates_row(rows, row, heads[row], bodies[row], nafs[row], w) {
             return row;
         }
-        row += 1;
     }
     count
 }

@@ -7,7 +7,7 @@ ghost use Rattle.program.specs.Days.{of_day, clauses};
 ghost use Rattle.program.specs.Valid.{valid};
 ghost use Rattle.stable.specs.Check.{verdict, Checks};
 
-use program::Program;
+use program::{Program, Refusal};
 use stable::Checked;
 
 // The check of a word over the names of a valid table: a row's number is the table's, and the smaller subset is that of the day's clauses.
@@ -33,15 +33,15 @@ fn check_day(p: Program, day: u16, candidate: u32) -> Checked
 }
 
 // The check of one candidate on a day.
-pub fn check(p: Program, day: u16, candidate: u32) -> Checked
+pub fn check(p: Program, day: u16, candidate: u32) -> Result<Checked, Refusal>
     ensures { Checks p day candidate result }
 {
     if !validity::is_valid(p) {
-        return Checked::Refused(program::INVALID_PROGRAM);
+        return Err(Refusal::InvalidProgram);
     }
     let n = p.atom_count;
     if !table_fields::is_word(n, candidate) {
-        return Checked::Refused(program::OUTSIDE_WORD);
+        return Err(Refusal::OutsideWord);
     }
-    check_day(p, day, candidate)
+    Ok(check_day(p, day, candidate))
 }

@@ -1,4 +1,6 @@
 -- What `check` prints: the room for it, and that it is the text of the call's answer. Assumes nothing.
+use Rattle.program.specs.declared.Refusal.{Refusal}
+use Rattle.std.specs.Prelude.{Result, Ok, Err}
 use mathlib.Core.Path.{◌≡◌}
 use mathlib.Core.List.{List, [], ◌∷◌, ◌++◌}
 use Prim.Native.Nat.{ℕ, ◌^◌, ◌≤◌, ◌<◌}
@@ -13,30 +15,31 @@ use Rattle.stable.specs.declared.Checked.{Checked}
 use Rattle.stable.specs.declared.Checked.TheVariants as found
 use Rattle.stable.specs.Check.{Checks}
 use Rattle.printing.specs.Ready.{most_bytes}
-use Rattle.checking.specs.Texts.{violated_word, smaller_word, stable_word, checked_line, check_text}
+use Rattle.checking.specs.Texts.{violated_word, smaller_word, stable_word, finding_line, checked_line, check_text}
 
 -- ---- the line of a word and a number
 pub numbered_fits : (w : List ℕ) (v : ℕ) (xs : List ℕ) → v < 2 ^ 32 → length w ≤ 20 → most_bytes ≤ length xs → length (numbered w v) ≤ length xs
 numbered_fits w v xs h s r = omega (arith, numbered-most w v (omega arith))
 
 -- ---- the check
-module _ (p : Program) (t w : ℕ) (c : Checked) (s : Checks p t w c) (xs : List ℕ) (r : ℕ) (ys : List ℕ) where
-  checked_wrote : (d : Checked) → c ≡ d → Wrote (checked_line d) xs r ys → Wrote (check_text t w p) xs r ys
-  unfolding check_text
-  checked_wrote d e h = rw (← s.answer, e) h
+module _ (c : Checked) (xs : List ℕ) (r : ℕ) (ys : List ℕ) where
+  pub finds-violated : (k : ℕ) → c ≡ found.Violated k → Wrote (numbered violated_word k) xs r ys → Wrote (finding_line c) xs r ys
+  unfolding finding_line
+  finds-violated k e h = rw e h
 
-  pub check_refused : (n : ℕ) → c ≡ found.Refused n → Wrote (refused_line n) xs r ys → Wrote (check_text t w p) xs r ys
-  unfolding checked_line
-  check_refused n e h = checked_wrote (found.Refused n) e h
+  pub finds-smaller : (j : ℕ) → c ≡ found.Smaller j → Wrote (numbered smaller_word j) xs r ys → Wrote (finding_line c) xs r ys
+  unfolding finding_line
+  finds-smaller j e h = rw e h
 
-  pub check-violated : (k : ℕ) → c ≡ found.Violated k → Wrote (numbered violated_word k) xs r ys → Wrote (check_text t w p) xs r ys
-  unfolding checked_line
-  check-violated k e h = checked_wrote (found.Violated k) e h
+  pub finds_stable : c ≡ found.Stable → Wrote (stable_word ++ (10 ∷ [])) xs r ys → Wrote (finding_line c) xs r ys
+  unfolding finding_line line_of join led
+  finds_stable e h = rw e h
 
-  pub check-smaller : (j : ℕ) → c ≡ found.Smaller j → Wrote (numbered smaller_word j) xs r ys → Wrote (check_text t w p) xs r ys
-  unfolding checked_line
-  check-smaller j e h = checked_wrote (found.Smaller j) e h
+module _ (p : Program) (t w : ℕ) (c : Result Checked Refusal) (s : Checks p t w c) (xs : List ℕ) (r : ℕ) (ys : List ℕ) where
+  pub check_refused : (q : Refusal) → c ≡ Err q → Wrote (refused_line q) xs r ys → Wrote (check_text t w p) xs r ys
+  unfolding check_text checked_line
+  check_refused q e h = rw (← s.answer, e) h
 
-  pub check_stable : c ≡ found.Stable → Wrote (stable_word ++ (10 ∷ [])) xs r ys → Wrote (check_text t w p) xs r ys
-  unfolding checked_line line_of join led
-  check_stable e h = checked_wrote found.Stable e h
+  pub check_found : (d : Checked) → c ≡ Ok d → Wrote (finding_line d) xs r ys → Wrote (check_text t w p) xs r ys
+  unfolding check_text checked_line
+  check_found d e h = rw (← s.answer, e) h

@@ -41,11 +41,12 @@ fn gather(text: &[u8], from: usize, n: usize, dated: bool) -> ClauseLines
     let mut lasts = [0u16; program::MOST_CLAUSES];
     let mut at = from;
     let mut e = lists::end_of(text, at, NEWLINE);
+    // A `while`: what stands behind the last line break is no line, and a split would give it as one.
     while e < text.len() {
         let line = rows::weigh(text_row::row_of(&text[at..e]), n, dated);
-        broken = broken | !line.holds;
-        zeros = zeros | line.zero;
-        reversed = reversed | line.reversed;
+        broken |= !line.holds;
+        zeros |= line.zero;
+        reversed |= line.reversed;
         heads[count] = line.head;
         bodies[count] = line.body;
         nafs[count] = line.naf;
@@ -56,15 +57,15 @@ fn gather(text: &[u8], from: usize, n: usize, dated: bool) -> ClauseLines
         e = lists::end_of(text, at, NEWLINE);
     }
     ClauseLines {
-        broken: broken,
-        zeros: zeros,
-        reversed: reversed,
-        count: count,
-        heads: heads,
-        bodies: bodies,
-        nafs: nafs,
-        firsts: firsts,
-        lasts: lasts,
+        broken,
+        zeros,
+        reversed,
+        count,
+        heads,
+        bodies,
+        nafs,
+        firsts,
+        lasts,
     }
 }
 

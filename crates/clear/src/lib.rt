@@ -5,15 +5,12 @@ ghost use Rattle.std.specs.Prelude.{◌≡◌};
 ghost use Rattle.held.specs.Clearing.{clearing, keep_of, release_of};
 
 use held::{ClearAnswer, ClearStatus};
-use program::Program;
+use program::{Program, Refusal};
 
-fn gave(status: ClearStatus, p: Program) -> ClearAnswer
+fn gave(status: Result<ClearStatus, Refusal>, p: Program) -> ClearAnswer
     ensures { result ≡ clearing status p }
 {
-    ClearAnswer {
-        status: status,
-        program: p,
-    }
+    ClearAnswer { status, program: p }
 }
 
 // Keeps the held clause as the last one; with nothing held the table is given back.
@@ -21,13 +18,13 @@ pub fn keep(p: Program) -> ClearAnswer
     ensures { result ≡ keep_of p }
 {
     if !validity::is_valid(p) {
-        return gave(ClearStatus::Refused(program::INVALID_PROGRAM), p);
+        return gave(Err(Refusal::InvalidProgram), p);
     }
     let held = p.held;
     if held.in_use {
-        return gave(ClearStatus::Cleared, hold_last::with_last(p));
+        return gave(Ok(ClearStatus::Cleared), hold_last::with_last(p));
     }
-    gave(ClearStatus::NothingHeld, p)
+    gave(Ok(ClearStatus::NothingHeld), p)
 }
 
 // Lets the held clause go; with nothing held the table is given back.
@@ -35,14 +32,14 @@ pub fn release(p: Program) -> ClearAnswer
     ensures { result ≡ release_of p }
 {
     if !validity::is_valid(p) {
-        return gave(ClearStatus::Refused(program::INVALID_PROGRAM), p);
+        return gave(Err(Refusal::InvalidProgram), p);
     }
     let held = p.held;
     if held.in_use {
         return gave(
-            ClearStatus::Cleared,
+            Ok(ClearStatus::Cleared),
             hold_place::with_held(p, table_fields::nothing_held()),
         );
     }
-    gave(ClearStatus::NothingHeld, p)
+    gave(Ok(ClearStatus::NothingHeld), p)
 }

@@ -4,7 +4,6 @@
 ghost use Rattle.say_words.specs.Printing.{Prints};
 ghost use Rattle.say_words.specs.Commands.{output, report_of};
 
-use program::Verdict;
 use say_words::Command;
 
 // A slice of so many bytes has room for every text that is printed.
@@ -28,8 +27,8 @@ pub fn run(
     let verdict = read.verdict;
     let program = read.program;
     match verdict {
-        Verdict::Accepted => say_command::put_command(program, day, command, numbers, bytes, out),
-        Verdict::Refused(number) => printing::put_refused(number, out),
+        Ok(()) => say_command::put_command(program, day, command, numbers, bytes, out),
+        Err(refusal) => printing::put_refused(refusal, out),
     }
 }
 

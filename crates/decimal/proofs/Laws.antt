@@ -1,6 +1,6 @@
 -- Laws of the decimal text: digit by digit, one text for each number, and the number that a text is. Assumes nothing.
 use mathlib.Core.Path.{◌≡◌, refl, sym, ap, ◌∙◌}
-use mathlib.Core.Bool.{Bool, true, false}
+use mathlib.Core.Bool.{Bool, true}
 use mathlib.Core.Logic.{⊎_elim}
 use mathlib.Core.List.{List, [], ◌∷◌, ◌++◌}
 use Prim.Native.Nat.{ℕ, zero, suc, ◌+◌, ◌-◌, ◌*◌, ◌/◌, ◌%◌, ◌^◌, ◌≤◌, ◌<◌}
@@ -9,12 +9,11 @@ use native.Mathlib.Omega.{arith}
 use lib.ListN.{length, length-append}
 use borrow.Author.Tests.{lt-ltb, le-ltb, le-leb, lt-leb}
 use Rattle.sets.specs.Lists.{every}
-use Rattle.sets.proofs.Tests.{dec, lt_or_ge, both_true, clash}
+use Rattle.sets.proofs.Tests.{dec, lt_or_ge, both_true}
 use Rattle.sets.proofs.Least.{least_is, least_hit, least_none, least_le}
 use Rattle.lists.specs.Bytes.{same}
 use Rattle.lists.proofs.Loops.{same_true, same_self}
-use Rattle.decimal.specs.declared.Parsed.{Parsed}
-use Rattle.decimal.specs.declared.Parsed.TheVariants.{Number, Nothing}
+use Rattle.std.proofs.Common.{Some, None}
 use Rattle.decimal.specs.Decimal.{numeral, decimal, number_of, parsed_of}
 
 -- ---- digit by digit
@@ -123,31 +122,23 @@ decimal-every p f = by_tens (λ v. every p (decimal v) ≡ true)
     append (x ∷ xs) d h k = let a = both_true (p x) (every p xs) h in rw (a.0, append xs d a.1 k)
 
 -- ---- what a parsed text says
-abbrev the_number : Parsed → ℕ
-the_number (Number v) = v
-the_number Nothing = 0
-
-abbrev is_number : Parsed → Bool
-is_number (Number v) = true
-is_number Nothing = false
-
 module _ (bound : ℕ) (item : List ℕ) where
-  found : number_of bound item ≤ bound → parsed_of bound item ≡ Number (number_of bound item)
+  found : number_of bound item ≤ bound → parsed_of bound item ≡ Some (number_of bound item)
   unfolding parsed_of
   found h = rw (le-leb (number_of bound item) bound h)
 
-  lost : bound < number_of bound item → parsed_of bound item ≡ Nothing
+  lost : bound < number_of bound item → parsed_of bound item ≡ None
   unfolding parsed_of
   lost h = rw (lt-leb (number_of bound item) bound h)
 
-  pub parsed_number : (v : ℕ) → Number v ≡ parsed_of bound item → (v ≡ number_of bound item) × (v ≤ bound)
+  pub parsed_number : (v : ℕ) → Some v ≡ parsed_of bound item → (v ≡ number_of bound item) × (v ≤ bound)
   parsed_number v e = ⊎_elim
-      (λ (l : bound < number_of bound item). clash true refl (sym (ap is_number (sym (lost l) ∙ sym e))))
-      (λ l. let q = ap the_number (e ∙ found l) in (q, omega arith))
+      (λ (l : bound < number_of bound item). let q = lost l in absurd (cc))
+      (λ l. let q : v ≡ number_of bound item = let f = found l in cc in (q, omega arith))
       (lt_or_ge bound (number_of bound item))
 
-  pub parsed_nothing : Nothing ≡ parsed_of bound item → suc bound ≡ number_of bound item
+  pub parsed_nothing : None ≡ parsed_of bound item → suc bound ≡ number_of bound item
   parsed_nothing e = ⊎_elim
       (λ (l : bound < number_of bound item). omega (arith, number_le bound item))
-      (λ l. clash true refl (ap is_number (sym (found l) ∙ sym e)))
+      (λ l. let q = found l in absurd (cc))
       (lt_or_ge bound (number_of bound item))

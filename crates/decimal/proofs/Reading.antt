@@ -1,7 +1,7 @@
 -- Reading a number digit by digit, and putting it. Assumes nothing.
 use mathlib.Core.Path.{◌≡◌, refl, sym, ap, ap₂, ◌∙◌}
-use mathlib.Core.Bool.{Bool, true, false, not, ◌&&◌, ◌||◌, and-false}
-use mathlib.Core.Logic.{⊎_elim}
+use mathlib.Core.Bool.{Bool, true, false, not, ◌&&◌, and-false}
+use mathlib.Core.Logic.{◌⊎◌, ⊎_elim}
 use mathlib.Core.List.{List, [], ◌∷◌, ◌++◌}
 use Prim.Native.Nat.{ℕ, zero, suc, ◌+◌, ◌-◌, ◌*◌, ◌/◌, ◌%◌, ◌^◌, ◌≤◌, ◌<◌}
 use native.Mathlib.Numerals.{add-one}
@@ -9,24 +9,24 @@ use native.Mathlib.Omega.{arith}
 use lib.Dec.{ltb, leb}
 use lib.ListN.{length, get_or, take, set, length-append}
 use lib.Seq.{take_all, take-suc, take-append_seam, get_or-append-add}
-use borrow.Author.Tests.{lt-ltb, le-ltb, le-leb, lt-leb, ltb-true, ltb-false, leb-true}
-use Rattle.sets.proofs.Tests.{lt_or_ge, both_true, both_false, clash, via_true}
+use borrow.Author.Tests.{lt-ltb, le-leb, lt-leb, ltb-true, leb-true}
+use Rattle.sets.proofs.Tests.{lt_or_ge, both_true, clash, via_true}
 use Rattle.lists.specs.Bytes.{Wrote}
 use Rattle.lists.proofs.Writing.{Put, put_byte, put_done, put_long, wrote_put}
-use Rattle.decimal.specs.declared.Parsed.TheVariants.{Number, Nothing}
+use Rattle.std.proofs.Common.{Some, None}
 use Rattle.decimal.specs.Decimal.{decimal, parsed_of, digit_of, goes_on}
 use Rattle.decimal.proofs.Laws.{decimal_one, decimal_more, by_tens, length_more, decimal_long, decimal_injective, number_hit, number_none}
 
 -- ---- digits
-pub digit_low : (x : ℕ) → x < 48 → 10 ≡ digit_of x
+digit_low : (x : ℕ) → x < 48 → 10 ≡ digit_of x
 unfolding digit_of
 digit_low x h = rw (lt-leb 48 x h)
 
-pub digit_high : (x : ℕ) → 57 < x → 10 ≡ digit_of x
+digit_high : (x : ℕ) → 57 < x → 10 ≡ digit_of x
 unfolding digit_of
 digit_high x h = rw (lt-leb x 57 h, and-false)
 
-pub digit_is : (x : ℕ) → 48 ≤ x → x ≤ 57 → x - 48 ≡ digit_of x
+digit_is : (x : ℕ) → 48 ≤ x → x ≤ 57 → x - 48 ≡ digit_of x
 unfolding digit_of
 digit_is x h l = rw (le-leb 48 x h, le-leb x 57 l)
 
@@ -39,16 +39,22 @@ byte_of x h = ⊎_elim
     (λ l. ⊎_elim (λ (g : 57 < x). absurd (omega (arith, digit_high x g))) (λ g. omega (arith, digit_is x l g)) (lt_or_ge 57 x))
     (lt_or_ge x 48)
 
-pub over_bound : (v d bound : ℕ) → bound < d → false ≡ goes_on v d bound
+over_bound : (v d bound : ℕ) → bound < d → false ≡ goes_on v d bound
 unfolding goes_on
 over_bound v d bound h = rw (lt-leb (10 * v + d) bound (omega arith), and-false)
 
-pub goes : (v d bound : ℕ) → d ≤ bound → leb 1 v && ltb d 10 && leb v ((bound - d) / 10) ≡ goes_on v d bound
+goes : (v d bound : ℕ) → d ≤ bound → leb 1 v && ltb d 10 && leb v ((bound - d) / 10) ≡ goes_on v d bound
 unfolding goes_on
 goes v d bound h = ap (λ (b : Bool). leb 1 v && ltb d 10 && b) (⊎_elim
     (λ (l : (bound - d) / 10 < v). rw (lt-leb v ((bound - d) / 10) l, lt-leb (10 * v + d) bound (omega arith)))
     (λ l. rw (le-leb v ((bound - d) / 10) l, le-leb (10 * v + d) bound (omega arith)))
     (lt_or_ge ((bound - d) / 10) v))
+
+pub goes_tests : (v d bound : ℕ) → goes_on v d bound ≡ (leb d bound && leb 1 v && ltb d 10 && leb v ((bound - d) / 10))
+goes_tests v d bound = ⊎_elim
+    (λ (l : bound < d). sym (over_bound v d bound l) ∙ rw (lt-leb d bound l))
+    (λ l. sym (goes v d bound l) ∙ rw (le-leb d bound l))
+    (lt_or_ge bound d)
 
 -- ---- the first digits of a number's text are a number's text
 one_more : (xs : List ℕ) (i : ℕ) → i < length xs → take (i + 1) xs ≡ take i xs ++ get_or xs i 0 ∷ []
@@ -128,7 +134,7 @@ module _ (s : List ℕ) (bound : ℕ) where
     pub small : v ≤ bound
     pub text : decimal v ≡ take i s
 
-  none : ((w : ℕ) → w ≤ bound → decimal w ≡ s → ⊥) → Nothing ≡ parsed_of bound s
+  none : ((w : ℕ) → w ≤ bound → decimal w ≡ s → ⊥) → None ≡ parsed_of bound s
   unfolding parsed_of
   none f = rw (number_none bound s f, lt-leb (suc bound) bound (omega arith))
 
@@ -136,24 +142,22 @@ module _ (s : List ℕ) (bound : ℕ) where
   front : (w i : ℕ) → decimal w ≡ s → 1 ≤ i → i ≤ length s → (u : ℕ) × (decimal u ≡ take i s) × (u ≤ w)
   front w i e a b = let r = prefix w i a (omega (arith, ap length e)) in (r.0, r.1 ∙ ap (take i) e, r.2)
 
-  pub parse_empty : length s ≡ 0 → Nothing ≡ parsed_of bound s
+  pub parse_empty : length s ≡ 0 → None ≡ parsed_of bound s
   parse_empty h = none (λ w l e. omega (arith, ap length e, decimal_long w))
 
   start_of : (length s ≡ 0 → ⊥) → take 1 s ≡ get_or s 0 0 ∷ []
   start_of h = one_more s 0 (omega arith)
 
-  pub parse_start : (d : ℕ) → (length s ≡ 0 → ⊥) → d ≡ digit_of (get_or s 0 0) → ltb 9 d || ltb bound d ≡ false → Parsing 1 d
-  parse_start d h e f =
-      let a = both_false (ltb 9 d) (ltb bound d) f in
-      let l = ltb-false 9 d a.0 in
+  pub parse_start : (d : ℕ) → (length s ≡ 0 → ⊥) → d ≡ digit_of (get_or s 0 0) → d ≤ 9 → d ≤ bound → Parsing 1 d
+  parse_start d h e l m =
       record {
         one_up = omega arith;
         within = omega arith;
-        small = ltb-false bound d a.1;
+        small = m;
         text = decimal_one d (omega arith) ∙ ap (λ (x : ℕ). x ∷ []) (ap (λ (x : ℕ). 48 + x) e ∙ byte_of (get_or s 0 0) (omega arith)) ∙ sym (start_of h);
       }
 
-  pub parse_not : (d : ℕ) → (length s ≡ 0 → ⊥) → d ≡ digit_of (get_or s 0 0) → ltb 9 d || ltb bound d ≡ true → Nothing ≡ parsed_of bound s
+  pub parse_not : (d : ℕ) → (length s ≡ 0 → ⊥) → d ≡ digit_of (get_or s 0 0) → (9 < d) ⊎ (bound < d) → None ≡ parsed_of bound s
   parse_not d h e t = none (λ w l q.
       let r = front w 1 q (omega arith) (omega arith) in
       let u = r.0 in
@@ -161,7 +165,7 @@ module _ (s : List ℕ) (bound : ℕ) where
       let k : u < 10 = ⊎_elim (λ (a : u < 10). a) (λ a. absurd (omega (arith, length_more u a, decimal_long (u / 10), ap length c))) (lt_or_ge u 10) in
       let x : 48 + u ≡ get_or s 0 0 = ap (λ (z : List ℕ). get_or z 0 0) (sym (decimal_one u k) ∙ c) in
       let y : d ≡ u = e ∙ ap digit_of (sym x) ∙ digit_of_lem u k in
-      clash (ltb 9 d || ltb bound d) t (rw (le-ltb 9 d (omega arith), le-ltb bound d (omega (arith, r.2)))))
+      ⊎_elim (λ (a : 9 < d). omega arith) (λ a. omega (arith, r.2)) t)
 
   pub parse_more : (i v d : ℕ) {r : Bool} → Parsing i v → i < length s → d ≡ digit_of (get_or s i 0) → r ≡ goes_on v d bound → not r ≡ false → Parsing (i + 1) (10 * v + d)
   parse_more i v d p h e q t =
@@ -176,7 +180,7 @@ module _ (s : List ℕ) (bound : ℕ) where
             ∙ sym (one_more s i h);
       }
 
-  pub parse_stop : (i v d : ℕ) → Parsing i v → i < length s → d ≡ digit_of (get_or s i 0) → goes_on v d bound ≡ false → Nothing ≡ parsed_of bound s
+  pub parse_stop : (i v d : ℕ) → Parsing i v → i < length s → d ≡ digit_of (get_or s i 0) → goes_on v d bound ≡ false → None ≡ parsed_of bound s
   parse_stop i v d p h e f = none (λ w l q.
       let r = front w (i + 1) q (omega arith) (omega arith) in
       let u = r.0 in
@@ -184,7 +188,7 @@ module _ (s : List ℕ) (bound : ℕ) where
       let y : d ≡ u % 10 = e ∙ ap digit_of (sym k.1) ∙ digit_of_lem (u % 10) (omega arith) in
       clash (goes_on v d bound) (goes_true v d bound (omega (arith, k.0, k.2)) (omega arith) (omega (arith, k.0, r.2))) f)
 
-  pub parse_done : (i v : ℕ) → Parsing i v → length s ≤ i → Number v ≡ parsed_of bound s
+  pub parse_done : (i v : ℕ) → Parsing i v → length s ≤ i → Some v ≡ parsed_of bound s
   unfolding parsed_of
   parse_done i v p h =
       let e = number_hit bound s v p.small (p.text ∙ take_all i s h) in

@@ -1,9 +1,7 @@
 -- Decimal numbers of any size. Assumes nothing.
-use Rattle.std.specs.Prelude.{Bool, cond, ◌&&◌, List, [], ◌∷◌, ◌++◌, ℕ, zero, suc, ◌+◌, ◌-◌, ◌*◌, ◌/◌, ◌%◌, leb, ltb}
+use Rattle.std.specs.Prelude.{Bool, cond, ◌&&◌, List, [], ◌∷◌, ◌++◌, ℕ, zero, suc, ◌+◌, ◌-◌, ◌*◌, ◌/◌, ◌%◌, leb, ltb, Option, Some, None}
 use Rattle.sets.specs.Least.{least}
 use Rattle.lists.specs.Bytes.{same}
-use Rattle.decimal.specs.declared.Parsed.{Parsed}
-use Rattle.decimal.specs.declared.Parsed.TheVariants.{Number, Nothing}
 
 -- the text of v: its one digit, or the text of its tens and the digit of its ones; k bounds the number of digits
 unfoldable pub numeral : ℕ → ℕ → List ℕ
@@ -22,9 +20,9 @@ number_of bound item = least (λ v. same (decimal v) item) (suc bound)
 
 -- ---- what the routines of this crate answer
 -- the number that a text is, up to the bound
-unfoldable pub parsed_of : ℕ → List ℕ → Parsed
+unfoldable pub parsed_of : ℕ → List ℕ → Option ℕ
 unfolding number_of
-parsed_of bound item = cond (leb (number_of bound item) bound) (Number (number_of bound item)) Nothing
+parsed_of bound item = cond (leb (number_of bound item) bound) (Some (number_of bound item)) None
 
 -- the digit that a byte is, 10 for another byte
 unfoldable pub digit_of : ℕ → ℕ

@@ -1,4 +1,6 @@
 -- Demand 2, from the round trip and from what the check answers. Assumes nothing.
+use Rattle.program.specs.declared.Refusal.{Refusal}
+use Rattle.std.specs.Prelude.{Ok, Result}
 use mathlib.Core.Path.{◌≡◌, refl, sym, ap, ◌∙◌, subst}
 use mathlib.Core.Logic.{◌↔◌, ◌⊎◌, ⊎_elim}
 use mathlib.Core.Bool.{Bool, true, false, not}
@@ -18,14 +20,11 @@ use Rattle.program.specs.Held.{released}
 use Rattle.program.specs.Values.{is_word}
 use Rattle.program.specs.Valid.{valid, Sized}
 use Rattle.program.specs.Refusals.{lowest}
-use Rattle.program.specs.declared.Verdict.TheVariants.{Accepted}
 use Rattle.text.specs.declared.Read.{Read}
-use Rattle.text.specs.declared.Written.{Written}
-use Rattle.text.specs.declared.Written.TheVariants.{Length}
 use Rattle.text.specs.Lines.{first_items, is_dated}
 use Rattle.text.specs.Render.{render}
 use Rattle.text.specs.Reading.{read_of, IsAccepted}
-use Rattle.text.specs.Writing.{Writes, write_refusal}
+use Rattle.text.specs.Writing.{Writes, write_refusal, Written}
 use Rattle.text.specs.Writing as writing
 use Rattle.text.proofs.RoundTrip as trip
 use Rattle.text.proofs.Writings as writings
@@ -38,7 +37,7 @@ use Rattle.stable.proofs.Answers as answers
 use Rattle.demands.specs.Demand2.{ReadsExactly, WritesBack, Demand2}
 
 -- ---- reading
-is-accepted : (b : List ℕ) (r : Read) → r ≡ read_of b → r.verdict ≡ Accepted → IsAccepted b
+is-accepted : (b : List ℕ) (r : Read) → r ≡ read_of b → r.verdict ≡ Ok tt → IsAccepted b
 is-accepted b r e a = ap (λ (x : Read). x.verdict) (sym e) ∙ a
 
 exactly : (b : List ℕ) → IsAccepted b → ReadsExactly b (read_of b).program
@@ -61,10 +60,10 @@ back b z out a exit w h =
     let p = (read_of b).program in
     let same : render p ≡ b = trip.written_back b z in
     let t = writings.accepted p out (no_refusal p out (trip.read_valid b z) (rw same h)) in
-    record { length_told = w.answer ∙ t.0 ∙ ap (λ (x : List ℕ). Length (length x)) same; bytes = w.slice ∙ t.1 ∙ ap (λ (x : List ℕ). over x out) same }
+    record { length_told = w.answer ∙ t.0 ∙ ap (λ (x : List ℕ). Ok (length x)) same; bytes = w.slice ∙ t.1 ∙ ap (λ (x : List ℕ). over x out) same }
 
 -- what was written has been taken
-taken : (p : Program) (out : List ℕ) (n : ℕ) → writing.answer_of p out ≡ Length n → write_refusal p out ≡ 0
+taken : (p : Program) (out : List ℕ) (n : ℕ) → writing.answer_of p out ≡ Ok n → write_refusal p out ≡ 0
 unfolding writing.answer_of
 taken p out n e = ⊎_elim
     (λ t. eqb-true (write_refusal p out) 0 t)
@@ -79,8 +78,8 @@ taken_valid p out z = go (valid p) z
     go true e = refl
     go false e = absurd (omega arith)
 
-again : (p : Program) → Sized p → (out : List ℕ) (a : Written) (exit : List ℕ) → Writes p out a exit → (n : ℕ) → a ≡ Length n
-    → read_of (take n exit) ≡ record { verdict = Accepted; program = released p }
+again : (p : Program) → Sized p → (out : List ℕ) (a : Written) (exit : List ℕ) → Writes p out a exit → (n : ℕ) → a ≡ Ok n
+    → read_of (take n exit) ≡ record { verdict = Ok tt; program = released p }
 again p s out a exit w n e =
     let z = taken p out n (sym w.answer ∙ e) in
     let t = writings.accepted p out z in
@@ -88,7 +87,7 @@ again p s out a exit w n e =
     let text : take n exit ≡ render p = ap (take n) (w.slice ∙ t.1) ∙ take_at (render p) (drop (length (render p)) out) n size in
     ap read_of text ∙ trip.read_back p s (taken_valid p out z)
   where
-    same_length : {x y : ℕ} → Length x ≡ Length y → x ≡ y
+    same_length : {x y : ℕ} → ◌≡◌ {A = Result ℕ Refusal} (Ok x) (Ok y) → x ≡ y
     same_length q = cc
 
 -- ---- the check
@@ -107,10 +106,10 @@ module _ (p : Program) (d w : ℕ) where
   unfolding refusal lowest
   whole v i = rw (v, i)
 
-  stable : (r : Checked) → Checks p d w r → (r ≡ Stable) ↔ ((valid p ≡ true) × (is_word p.atom_count w ≡ true) × PStable (rules_of (clauses p d)) (bit w))
+  stable : (r : Result Checked Refusal) → Checks p d w r → (r ≡ Ok Stable) ↔ ((valid p ≡ true) × (is_word p.atom_count w ≡ true) × PStable (rules_of (clauses p d)) (bit w))
   unfolding Says
   stable r c = (
-    λ e. let s = subst (λ (x : Checked). Says p d w x) e c.says in ((parts s.0).0, (parts s.0).1, s.1),
+    λ e. let s = subst (λ (x : Result Checked Refusal). Says p d w x) e c.says in ((parts s.0).0, (parts s.0).1, s.1),
     λ h. c.answer ∙ (answers.stable_exactly p d w (whole h.0 h.1)).1 h.2,
   )
 

@@ -1,4 +1,7 @@
 -- Demand 3 of any two runs over one table. Assumes nothing.
+use Rattle.program.specs.declared.Refusal.TheVariants.{InvalidProgram, TooManyMembers, TooLittleRoom}
+use Rattle.program.specs.declared.Refusal.{Refusal}
+use Rattle.std.specs.Prelude.{Ok, Err}
 use mathlib.Core.Path.{◌≡◌, refl, sym, ap, ◌∙◌}
 use mathlib.Core.Bool.{false}
 use mathlib.Core.Logic.{◌⊎◌, ⊎_elim}
@@ -19,7 +22,7 @@ use Rattle.semantics.specs.Definitions.{PStable}
 use Rattle.semantics.specs.Interpretations.{rules_of}
 use Rattle.semantics.proofs.Within.{antichain}
 use Rattle.stable.proofs.Decides as decides
-use Rattle.program.specs.declared.Outcome.TheVariants.{Complete, Refused}
+use Rattle.program.specs.declared.Outcome.TheVariants.{Complete}
 use Rattle.tree.specs.Answer.{listed as search_listed}
 use Rattle.tree.proofs.Runs as searches
 use Rattle.fix_answer.specs.Answer.{refused as fixed_refused}
@@ -49,7 +52,7 @@ parted p d r e n v w a b h = bits_ext v w h (antichain (rules_of (clauses p d)) 
 
 -- ---- a run by search
 module _ (p : Program) (d : ℕ) (A : ℕ) (l : List ℕ) where
-  search-nine : valid p ≡ false → outcome p d (searched A l) ≡ Refused 9
+  search-nine : valid p ≡ false → outcome p d (searched A l) ≡ Err InvalidProgram
   unfolding outcome
   search-nine f = ap (λ a. a.outcome) (searches.refused p d A l f).0
 
@@ -57,7 +60,7 @@ module _ (p : Program) (d : ℕ) (A : ℕ) (l : List ℕ) where
   unfolding listed written exit search_listed Begins
   search-lowest = sym (searches.lists-lowest p d A l) ∙ ap (λ (k : ℕ). take k (all_models p d)) (searching.counted p d A l)
 
-  search_all : outcome p d (searched A l) ≡ Complete → listed p d (searched A l) ≡ all_models p d
+  search_all : outcome p d (searched A l) ≡ Ok Complete → listed p d (searched A l) ≡ all_models p d
   search_all e = ⊎_elim
       (λ v.
       let s = searching.by_search p d v A l in
@@ -76,7 +79,7 @@ module _ (p : Program) (d : ℕ) (A : ℕ) (l : List ℕ) where
     complete_all = search_all;
     behind = searches.keeps_rest p d A l;
     places = searches.same-places p d A l;
-    nine = (λ e. ⊎_elim (λ v. absurd ((searching.by_search p d v A l).never_refused 9 e)) (λ f. f) (dec (valid p)), search-nine);
+    nine = (λ e. ⊎_elim (λ v. absurd ((searching.by_search p d v A l).never_refused InvalidProgram e)) (λ f. f) (dec (valid p)), search-nine);
     refused = λ n e. ⊎_elim
         (λ v. absurd ((searching.by_search p d v A l).never_refused n e))
         (λ f. (searches.listed_none p d A l f, ap (λ a. a.visited) (searches.refused p d A l f).0))
@@ -95,11 +98,11 @@ module _ (p : Program) (d : ℕ) (l w v : List ℕ) where
   fix_counted = fixing.leaves_count (fixing.left p d l w v)
 
   -- a table that is not accepted is refused by 9
-  nine_is : valid p ≡ false → (outcome p d (fixed l w v) ≡ Refused 9) × (written p d (fixed l w v) ≡ 0)
+  nine_is : valid p ≡ false → (outcome p d (fixed l w v) ≡ Err InvalidProgram) × (written p d (fixed l w v) ≡ 0)
   unfolding outcome written fixed_refused
   nine_is f = let e = fixing.refused-nine p d l w v f in (ap (λ a. a.outcome) e, ap (λ a. a.written) e)
 
-  fix_all : outcome p d (fixed l w v) ≡ Complete → listed p d (fixed l w v) ≡ all_models p d
+  fix_all : outcome p d (fixed l w v) ≡ Ok Complete → listed p d (fixed l w v) ≡ all_models p d
   fix_all e = ⊎_elim
       (λ t.
       let f = fixing.by_fixpoint p d l w v t in
@@ -109,12 +112,12 @@ module _ (p : Program) (d : ℕ) (l w v : List ℕ) where
       (λ f. refused-complete (nine_is f).0 e)
       (dec (valid p))
 
-  fix_none : (n : ℕ) → outcome p d (fixed l w v) ≡ Refused n → listed p d (fixed l w v) ≡ []
+  fix_none : (r : Refusal) → outcome p d (fixed l w v) ≡ Err r → listed p d (fixed l w v) ≡ []
   fix_none n e = fix_lowest ∙ ap (λ (k : ℕ). take k (all_models p d)) (⊎_elim (λ t. (fixing.by_fixpoint p d l w v t).writes_none n e) (λ f. (nine_is f).1) (dec (valid p)))
 
-  fix_nine : outcome p d (fixed l w v) ≡ Refused 9 → valid p ≡ false
+  fix_nine : outcome p d (fixed l w v) ≡ Err InvalidProgram → valid p ≡ false
   fix_nine e = ⊎_elim
-      (λ t. absurd (⊎_elim (λ (i : 9 ≡ 11). omega arith) (λ (i : 9 ≡ 12). omega arith) ((fixing.by_fixpoint p d l w v t).no_other 9 e)))
+      (λ t. ⊎_elim (λ (i : InvalidProgram ≡ TooManyMembers). cc) (λ (i : InvalidProgram ≡ TooLittleRoom). cc) ((fixing.by_fixpoint p d l w v t).no_other InvalidProgram e))
       (λ f. f)
       (dec (valid p))
 

@@ -1,4 +1,7 @@
 -- How a fixpoint ends: refused, full or complete, and what is so of each. Assumes nothing.
+use Rattle.program.specs.declared.Refusal.TheVariants.{InvalidProgram, TooManyMembers, TooLittleRoom}
+use Rattle.program.specs.declared.Refusal.{Refusal}
+use Rattle.std.specs.Prelude.{Ok, Err, Result}
 use mathlib.Core.Path.{◌≡◌, refl, sym, ap, ap₂, ◌∙◌}
 use mathlib.Core.Bool.{Bool, true, false}
 use mathlib.Core.Logic.{◌⊎◌, inl, inr, ⊎_elim}
@@ -15,11 +18,11 @@ use Rattle.sets.proofs.Tests.{clash, lt_or_ge}
 use Rattle.sets.proofs.Lists.{some_in, none_each, below_in, in_below}
 use Rattle.program.specs.declared.Program.{Program}
 use Rattle.program.specs.Valid.{valid}
-use Rattle.program.specs.Refusals.{lowest}
+use Rattle.program.specs.Refusals.{lowest, number, numbered}
 use Rattle.operator.specs.Operator.{stage}
 use Rattle.stages.specs.Run.{ending, crowded}
 use Rattle.program.specs.declared.Outcome.{Outcome}
-use Rattle.program.specs.declared.Outcome.TheVariants.{Complete, Full, Refused}
+use Rattle.program.specs.declared.Outcome.TheVariants.{Complete, Full}
 use Rattle.fix_answer.specs.declared.FixpointAnswer.{FixpointAnswer}
 use Rattle.parts.specs.Overwriting.{overwrite}
 use Rattle.vocabulary.specs.Vocabulary.{vocabulary}
@@ -27,7 +30,7 @@ use Rattle.fix_answer.specs.Answer.{transform_of, room_of, found, refusal, liste
 use Rattle.fix_answer.proofs.Lists.{found_models}
 use Rattle.fix_answer.proofs.Ending.{ends_run}
 use Rattle.demands.specs.Demand3.{outcome, written, all_models, Crowded, ByFixpoint}
-use Rattle.demands.proofs.Outcomes.{full-spent, full-complete, spent-complete, refused_full, refused-spent, refused-complete, one_number}
+use Rattle.demands.proofs.Outcomes.{full-spent, full-complete, spent-complete, refused_full, refused-spent, refused-complete, one_refusal}
 
 -- ---- the room
 module _ (p : Program) (d : ℕ) (room : ℕ) where
@@ -79,28 +82,28 @@ unfolding overwrite
 leaves_all xs l h = record { here = le_refl (length xs); there = h; is = ap (λ (y : List ℕ). y ++ drop (length xs) l) (take_all (length l) xs h ∙ sym (take_all (length xs) xs (le_refl (length xs)))) }
 
 -- ---- the ways to end
-abbrev answer : Outcome → ℕ → FixpointAnswer
+abbrev answer : Result Outcome Refusal → ℕ → FixpointAnswer
 answer o n = record { outcome = o; written = n }
 
 data Ended (p : Program) (d : ℕ) (l w v : List ℕ) : Type 0 where
-  by_nine : valid p ≡ false → answer_of p d l w v ≡ refused 9 → exit_of p d l w v ≡ l → Ended p d l w v
-  by_eleven : valid p ≡ true → 64 < vocabulary p d → answer_of p d l w v ≡ refused 11 → exit_of p d l w v ≡ l → Ended p d l w v
-  by_twelve : valid p ≡ true → vocabulary p d ≤ 64 → Crowded p d (room_of w v) → answer_of p d l w v ≡ refused 12 → exit_of p d l w v ≡ l → Ended p d l w v
+  by_nine : valid p ≡ false → answer_of p d l w v ≡ refused InvalidProgram → exit_of p d l w v ≡ l → Ended p d l w v
+  by_eleven : valid p ≡ true → 64 < vocabulary p d → answer_of p d l w v ≡ refused TooManyMembers → exit_of p d l w v ≡ l → Ended p d l w v
+  by_twelve : valid p ≡ true → vocabulary p d ≤ 64 → Crowded p d (room_of w v) → answer_of p d l w v ≡ refused TooLittleRoom → exit_of p d l w v ≡ l → Ended p d l w v
   ends-full : valid p ≡ true → vocabulary p d ≤ 64 → (Crowded p d (room_of w v) → ⊥) → length l < length (all_models p d)
-      → answer_of p d l w v ≡ answer Full (length l) → exit_of p d l w v ≡ overwrite l (all_models p d) → Ended p d l w v
+      → answer_of p d l w v ≡ answer (Ok Full) (length l) → exit_of p d l w v ≡ overwrite l (all_models p d) → Ended p d l w v
   ends-complete : valid p ≡ true → vocabulary p d ≤ 64 → (Crowded p d (room_of w v) → ⊥) → length (all_models p d) ≤ length l
-      → answer_of p d l w v ≡ answer Complete (length (all_models p d)) → exit_of p d l w v ≡ overwrite l (all_models p d) → Ended p d l w v
+      → answer_of p d l w v ≡ answer (Ok Complete) (length (all_models p d)) → exit_of p d l w v ≡ overwrite l (all_models p d) → Ended p d l w v
 
-listed-full : (n places : ℕ) → places < n → listed n places ≡ answer Full places
+listed-full : (n places : ℕ) → places < n → listed n places ≡ answer (Ok Full) places
 unfolding listed
 listed-full n places h = let m : min n places ≡ places = omega arith in ap₂ answer (rw (lt-leb n places h)) m
 
-listed-complete : (n places : ℕ) → n ≤ places → listed n places ≡ answer Complete n
+listed-complete : (n places : ℕ) → n ≤ places → listed n places ≡ answer (Ok Complete) n
 unfolding listed
 listed-complete n places h = let m : min n places ≡ n = omega arith in ap₂ answer (rw (le-leb n places h)) m
 
 ended : (p : Program) (d : ℕ) (l w v : List ℕ) → Ended p d l w v
-unfolding answer_of exit_of refusal lowest
+unfolding answer_of exit_of refusal lowest numbered
 ended p d l w v = go (valid p) (ltb 64 (vocabulary p d)) (crowded (transform_of p d) (room_of w v)) refl refl refl
   where
     go : (a x y : Bool) → valid p ≡ a → ltb 64 (vocabulary p d) ≡ x → crowded (transform_of p d) (room_of w v) ≡ y → Ended p d l w v
@@ -128,38 +131,41 @@ ended p d l w v = go (valid p) (ltb 64 (vocabulary p d)) (crowded (transform_of 
         lists = let q : exit_of p d l w v ≡ overwrite l (found p d) = rw (e, f, g) in q ∙ ap (overwrite l) all
 
 -- ---- what is so of each way
+two_refusals : {A : Type 0} {o : Result Outcome Refusal} {r s : Refusal} → o ≡ Err r → o ≡ Err s → (number r ≡ number s → ⊥) → A
+two_refusals a b n = absurd (n (ap number (one_refusal a b)))
+
 module _ (p : Program) (d : ℕ) (l w v : List ℕ) where
   by_way : valid p ≡ true → Ended p d l w v → ByFixpoint p d l w v
   unfolding outcome written refused
   by_way t (by_nine e q x) = clash (valid p) t e
   by_way t (by_eleven e h q x) =
-      let o : (answer_of p d l w v).outcome ≡ Refused 11 = ap (λ a. a.outcome) q in
+      let o : (answer_of p d l w v).outcome ≡ Err TooManyMembers = ap (λ a. a.outcome) q in
       record {
         ends = ends_run p d t;
         eleven = (λ i. h, λ i. o);
-        twelve = (λ i. absurd (omega (arith, one_number o i)), λ i. absurd (omega (arith, i.0)));
-        no_other = λ n i. inl (one_number i o);
+        twelve = (λ i. two_refusals o i (λ z. omega arith), λ i. absurd (omega (arith, i.0)));
+        no_other = λ n i. inl (one_refusal i o);
         full = (λ i. refused_full o i, λ i. absurd (omega (arith, i.0)));
         complete = (λ i. refused-complete o i, λ i. absurd (omega (arith, i.0)));
         never_spent = λ i. refused-spent o i;
-        writes = λ f. absurd (f 11 o);
+        writes = λ f. absurd (f TooManyMembers o);
         writes_none = λ n i. ap (λ a. a.written) q;
       }
   by_way t (by_twelve e h c q x) =
-      let o : (answer_of p d l w v).outcome ≡ Refused 12 = ap (λ a. a.outcome) q in
+      let o : (answer_of p d l w v).outcome ≡ Err TooLittleRoom = ap (λ a. a.outcome) q in
       record {
         ends = ends_run p d t;
-        eleven = (λ i. absurd (omega (arith, one_number o i)), λ i. absurd (omega arith));
+        eleven = (λ i. two_refusals o i (λ z. omega arith), λ i. absurd (omega arith));
         twelve = (λ i. (h, c), λ i. o);
-        no_other = λ n i. inr (one_number i o);
+        no_other = λ n i. inr (one_refusal i o);
         full = (λ i. refused_full o i, λ i. absurd (i.1 c));
         complete = (λ i. refused-complete o i, λ i. absurd (i.1 c));
         never_spent = λ i. refused-spent o i;
-        writes = λ f. absurd (f 12 o);
+        writes = λ f. absurd (f TooLittleRoom o);
         writes_none = λ n i. ap (λ a. a.written) q;
       }
   by_way t (ends-full e h c m q x) =
-      let o : (answer_of p d l w v).outcome ≡ Full = ap (λ a. a.outcome) q in
+      let o : (answer_of p d l w v).outcome ≡ Ok Full = ap (λ a. a.outcome) q in
       record {
         ends = ends_run p d t;
         eleven = (λ i. refused_full i o, λ i. absurd (omega arith));
@@ -172,7 +178,7 @@ module _ (p : Program) (d : ℕ) (l w v : List ℕ) where
         writes_none = λ n i. refused_full i o;
       }
   by_way t (ends-complete e h c m q x) =
-      let o : (answer_of p d l w v).outcome ≡ Complete = ap (λ a. a.outcome) q in
+      let o : (answer_of p d l w v).outcome ≡ Ok Complete = ap (λ a. a.outcome) q in
       record {
         ends = ends_run p d t;
         eleven = (λ i. refused-complete i o, λ i. absurd (omega arith));
@@ -200,6 +206,6 @@ module _ (p : Program) (d : ℕ) (l w v : List ℕ) where
   pub left : Leaves (answer_of p d l w v).written (all_models p d) l (exit_of p d l w v)
   left = left_by (ended p d l w v)
 
-  pub refused-nine : valid p ≡ false → answer_of p d l w v ≡ refused 9
-  unfolding answer_of refusal lowest
+  pub refused-nine : valid p ≡ false → answer_of p d l w v ≡ refused InvalidProgram
+  unfolding answer_of refusal lowest numbered
   refused-nine e = rw e

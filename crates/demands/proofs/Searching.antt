@@ -1,4 +1,5 @@
 -- How a search of an accepted table ends: full, spent or complete, and what is so of each. Assumes nothing.
+use Rattle.std.specs.Prelude.{Ok, Err}
 use mathlib.Core.Path.{◌≡◌, sym, ap, ◌∙◌}
 use mathlib.Core.Bool.{true}
 use mathlib.Core.Logic.{◌⊎◌, ⊎_elim}
@@ -26,7 +27,7 @@ module _ (p : Program) (d : ℕ) (v : valid p ≡ true) (A : ℕ) (l : List ℕ)
   by_way : Ended (length l) (length (leaves_in p d A)) A (N p d) (full_at (leaf_of p d) (nodes_of p d) (length l)) (answer_of p d A l) → BySearch p d A l
   unfolding outcome written visited
   by_way (ends-full h q) =
-      let o : (answer_of p d A l).outcome ≡ Full = ap (λ a. a.outcome) q in
+      let o : (answer_of p d A l).outcome ≡ Ok Full = ap (λ a. a.outcome) q in
       let c : (answer_of p d A l).visited ≡ full_at (leaf_of p d) (nodes_of p d) (length l) = ap (λ a. a.visited) q in
       record {
         full = (λ e. h, λ k. o);
@@ -39,7 +40,7 @@ module _ (p : Program) (d : ℕ) (v : valid p ≡ true) (A : ℕ) (l : List ℕ)
         visits_complete = λ e. full-complete o e;
       }
   by_way (ends-spent h k q) =
-      let o : (answer_of p d A l).outcome ≡ Spent = ap (λ a. a.outcome) q in
+      let o : (answer_of p d A l).outcome ≡ Ok Spent = ap (λ a. a.outcome) q in
       record {
         full = (λ e. full-spent e o, λ i. absurd (omega arith));
         spent = (λ e. (h, k), λ i. o);
@@ -51,7 +52,7 @@ module _ (p : Program) (d : ℕ) (v : valid p ≡ true) (A : ℕ) (l : List ℕ)
         visits_complete = λ e. spent-complete o e;
       }
   by_way (ends-complete h k q) =
-      let o : (answer_of p d A l).outcome ≡ Complete = ap (λ a. a.outcome) q in
+      let o : (answer_of p d A l).outcome ≡ Ok Complete = ap (λ a. a.outcome) q in
       record {
         full = (λ e. full-complete e o, λ i. absurd (omega arith));
         spent = (λ e. spent-complete e o, λ i. absurd (omega (arith, i.1)));

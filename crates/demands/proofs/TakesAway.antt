@@ -1,4 +1,5 @@
 -- A constraint that is kept takes away just the models that do not satisfy it. Assumes nothing.
+use Rattle.program.specs.Refusals.{verdict_of}
 use mathlib.Core.Path.{◌≡◌, sym, ap, ap₂, ◌∙◌, subst}
 use mathlib.Core.Bool.{Bool, true, false}
 use mathlib.Core.Logic.{◌↔◌, ⊎_elim}
@@ -22,7 +23,7 @@ use Rattle.stable.proofs.Readings.{satisfies_Satisfies, Satisfies_satisfies}
 use Rattle.stable.proofs.Decides.{listed, rising}
 use Rattle.held.specs.declared.HoldAnswer.{HoldAnswer}
 use Rattle.held.specs.declared.ClearAnswer.{ClearAnswer}
-use Rattle.held.specs.Holding.{day_held, held_as, hold_of, of_hold}
+use Rattle.held.specs.Holding.{day_held, held_as, hold_of}
 use Rattle.held.specs.Clearing.{keep_of}
 use Rattle.held.proofs.Laws.{hold_zero}
 use Rattle.held.proofs.Facts.{hold_then_keep}
@@ -87,7 +88,7 @@ module _ (p : Program) (c : Clause) (e : c.head ≡ 0) (f l : ℕ) (q : Program)
 -- Document 02, U7: what a constraint takes away.
 pub takes_away : TakesAway
 takes_away p s c e f l h x t k y d =
-    let taken = hold_zero p c f l (sym (ap (λ (a : HoldAnswer). of_hold a.status) x) ∙ t) in
+    let taken = hold_zero p c f l (sym (ap (λ (a : HoldAnswer). verdict_of a.status) x) ∙ t) in
     let behind = hold_then_keep p c f l taken s in
     let kept = y ∙ ap (λ (a : HoldAnswer). keep_of a.program) x in
     subst (λ (a : ClearAnswer). Constrained p c f l a.program d) (sym kept)

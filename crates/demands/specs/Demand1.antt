@@ -1,24 +1,20 @@
 -- Demand 1: "Bad input is refused by the lowest number of documents 01 and 02 that applies, with lent lists and text untouched;
 -- every other input is accepted; every call ends."
 -- That every call ends is no claim here: a function is proved only together with a measure that falls, and nothing else is built. Assumes nothing.
-use Rattle.std.specs.Prelude.{◌≡◌, ◌↔◌, Bool, true, false, List, [], ◌∷◌, ◌++◌, map, ℕ, ◌*◌, ◌≤◌, ◌<◌, length}
+use Rattle.std.specs.Prelude.{◌≡◌, ◌↔◌, Bool, true, false, List, [], ◌∷◌, ◌++◌, map, ℕ, ◌*◌, ◌≤◌, ◌<◌, length, Result, Ok, Err}
 use Rattle.sets.specs.Lists.{Each}
 use Rattle.lists.specs.Bytes.{one_if}
 use Rattle.program.specs.declared.Program.{Program}
 use Rattle.program.specs.Clauses.{Clause, Below, no_clause}
 use Rattle.program.specs.Held.{held_clause, nothing_held, released}
 use Rattle.program.specs.Valid.{valid, Sized}
-use Rattle.program.specs.Refusals.{Applies, Lowest, of_outcome}
-use Rattle.program.specs.declared.Verdict.{Verdict}
-use Rattle.program.specs.declared.Verdict.TheVariants.{Accepted, Refused}
+use Rattle.program.specs.declared.Refusal.{Refusal}
+use Rattle.program.specs.Refusals.{Applies, Lowest, Verdict, number, verdict_of}
 use Rattle.text.specs.declared.Read.{Read}
-use Rattle.text.specs.declared.Written.{Written}
-use Rattle.text.specs.declared.Written.TheVariants as written
 use Rattle.text.specs.Refusals as reading
 use Rattle.text.specs.Reading.{read_of}
-use Rattle.text.specs.Writing.{write_refusals, written_length, Writes}
+use Rattle.text.specs.Writing.{Written, write_refusals, written_length, Writes}
 use Rattle.stable.specs.declared.Checked.{Checked}
-use Rattle.stable.specs.declared.Checked.TheVariants as checked
 use Rattle.stable.specs.Check.{Checks}
 use Rattle.stable.specs.Check as checking
 use Rattle.summary.specs.declared.Summary.{Summary}
@@ -26,8 +22,8 @@ use Rattle.summary.specs.Summary.{summary_of}
 use Rattle.summary.specs.Summary as summing
 use Rattle.held.specs.declared.HoldAnswer.{HoldAnswer}
 use Rattle.held.specs.declared.ClearAnswer.{ClearAnswer}
-use Rattle.held.specs.Holding.{hold_refusals, hold_of, of_hold}
-use Rattle.held.specs.Clearing.{clear_refusals, keep_of, release_of, of_clear}
+use Rattle.held.specs.Holding.{hold_refusals, hold_of}
+use Rattle.held.specs.Clearing.{clear_refusals, keep_of, release_of}
 use Rattle.tree.specs.declared.SearchAnswer.{SearchAnswer}
 use Rattle.tree.specs.Answer.{Searches}
 use Rattle.tree.specs.Answer as searching
@@ -56,17 +52,6 @@ pub record Told : Type 1 where
   -- the table that came and the one that is given back, where a call answers with one
   pub tables : List (Program × Program)
 
--- the verdict of each kind of answer; that of an outcome is `of_outcome`
-abbrev pub of_written : Written → Verdict
-of_written (written.Refused n) = Refused n
-of_written (written.Length n) = Accepted
-
-abbrev pub of_checked : Checked → Verdict
-of_checked (checked.Refused n) = Refused n
-of_checked (checked.Violated k) = Accepted
-of_checked (checked.Smaller j) = Accepted
-of_checked checked.Stable = Accepted
-
 -- every number of a table
 abbrev pub numbers_of : Program → List ℕ
 numbers_of p =
@@ -77,7 +62,7 @@ numbers_of p =
 pub data Call : Type 0 where
   read : (text : List ℕ) → Read → Call
   write : Program → (out : Lent) → Written → Call
-  check : Program → (day word : ℕ) → Checked → Call
+  check : Program → (day word : ℕ) → Result Checked Refusal → Call
   summarize : Program → (words : List ℕ) → Summary → Call
   search : Program → (day limit : ℕ) (models : Lent) → SearchAnswer → Call
   fixpoint : Program → (day : ℕ) (models first second : Lent) → FixpointAnswer → Call
@@ -97,29 +82,31 @@ told_back c ts v p q = record { promised = c; meets = ts; verdict = v; shows = [
 -- document 02, U5: "on holding, after 9, 16 .., then 17 .., then 18 .."; keeping and releasing meet 9; U13: "22, behind 8 in reading and behind 18 in holding"
 unfoldable pub told : Call → Told
 told (read b r) = told_by (r ≡ read_of b) (reading.refusals b) r.verdict (numbers_of r.program) [] []
-told (write p o r) = told_by (Writes p o.entry r o.exit) (write_refusals p o.entry) (of_written r) (written_length r ∷ []) (o ∷ []) []
-told (check p d w r) = told_by (Checks p d w r) (checking.refusals p w) (of_checked r) [] [] []
+told (write p o r) = told_by (Writes p o.entry r o.exit) (write_refusals p o.entry) (verdict_of r) (written_length r ∷ []) (o ∷ []) []
+told (check p d w r) = told_by (Checks p d w r) (checking.refusals p w) (verdict_of r) [] [] []
 told (summarize p ws r) = told_by (r ≡ summary_of p ws) (summing.refusals p ws) r.verdict (r.occurring ++ map one_if r.settled) [] []
-told (search p d A l r) = told_by (Searches p d A l.entry r l.exit) (searching.refusals p) (of_outcome r.outcome) (r.written ∷ r.visited ∷ []) (l ∷ []) []
+told (search p d A l r) = told_by (Searches p d A l.entry r l.exit) (searching.refusals p) (verdict_of r.outcome) (r.written ∷ r.visited ∷ []) (l ∷ []) []
 told (fixpoint p d l w v r) =
     told_by (Fixes p d l.entry w.entry v.entry r l.exit w.exit v.exit) (fixing.refusals p d (room_of w.entry v.entry))
-    (of_outcome r.outcome) (r.written ∷ []) (l ∷ []) (w ∷ v ∷ [])
-told (hold p c f l r) = told_back (r ≡ hold_of p c f l) (hold_refusals p c f l) (of_hold r.status) p r.program
-told (keep p r) = told_back (r ≡ keep_of p) (clear_refusals p) (of_clear r.status) p r.program
-told (release p r) = told_back (r ≡ release_of p) (clear_refusals p) (of_clear r.status) p r.program
+    (verdict_of r.outcome) (r.written ∷ []) (l ∷ []) (w ∷ v ∷ [])
+told (hold p c f l r) = told_back (r ≡ hold_of p c f l) (hold_refusals p c f l) (verdict_of r.status) p r.program
+told (keep p r) = told_back (r ≡ keep_of p) (clear_refusals p) (verdict_of r.status) p r.program
+told (release p r) = told_back (r ≡ release_of p) (clear_refusals p) (verdict_of r.status) p r.program
 
 -- ---- demand 1 of one call
 pub record Answers (c : Told) : Type 0 where
   -- "Bad input is refused by the lowest number of documents 01 and 02 that applies"
-  pub refused : (n : ℕ) → (c.verdict ≡ Refused n) ↔ Lowest c.meets n
+  pub refused : (r : Refusal) → (c.verdict ≡ Err r) ↔ Lowest c.meets (number r)
+  -- and each number that it meets is that of a refusal
+  pub known : (n : ℕ) → Applies c.meets n → (r : Refusal) × (number r ≡ n)
   -- "every other input is accepted"
-  pub accepted : (c.verdict ≡ Accepted) ↔ ((n : ℕ) → Applies c.meets n → ⊥)
+  pub accepted : (c.verdict ≡ Ok tt) ↔ ((n : ℕ) → Applies c.meets n → ⊥)
   -- "with lent lists and text untouched"
-  pub untouched : (n : ℕ) → c.verdict ≡ Refused n → Each (λ (s : Lent). s.exit ≡ s.entry) c.lent
+  pub untouched : (r : Refusal) → c.verdict ≡ Err r → Each (λ (s : Lent). s.exit ≡ s.entry) c.lent
   -- document 02, U5: "A refused call gives the table back as it came."
-  pub given_back : (n : ℕ) → c.verdict ≡ Refused n → Each (λ (t : Program × Program). t.1 ≡ t.0) c.tables
+  pub given_back : (r : Refusal) → c.verdict ≡ Err r → Each (λ (t : Program × Program). t.1 ≡ t.0) c.tables
   -- "counts are 0"; "an all-zero table"; "no value for any name and none settled"
-  pub nothing : (n : ℕ) → c.verdict ≡ Refused n → Each (λ x. x ≡ 0) c.shows
+  pub nothing : (r : Refusal) → c.verdict ≡ Err r → Each (λ x. x ≡ 0) c.shows
   -- "What the working slices hold afterwards is free: any words."; each keeps its length
   pub lengths : Each (λ (s : Lent). length s.exit ≡ length s.entry) c.free
 
@@ -135,7 +122,7 @@ pub record MayHold (p : Program) : Type 0 where
 
 -- the reader gives this table for some text
 abbrev pub Given : Program → Type 0
-Given p = (b : List ℕ) × ((read_of b).verdict ≡ Accepted) × ((read_of b).program ≡ p)
+Given p = (b : List ℕ) × ((read_of b).verdict ≡ Ok tt) × ((read_of b).program ≡ p)
 
 -- ---- demand 1
 pub record Demand1 : Type 0 where

@@ -1,6 +1,7 @@
 -- Demand 2: "A book is read as exactly its clauses and written back gives the same bytes;
 -- a candidate is called p-stable exactly when Definition 3.1 of Sakama and Inoue says so." Assumes nothing.
-use Rattle.std.specs.Prelude.{◌≡◌, ◌↔◌, true, cond, List, [], ◌∷◌, map, ◌++◌, ℕ, ◌≤◌, length, take, drop}
+use Rattle.program.specs.declared.Refusal.{Refusal}
+use Rattle.std.specs.Prelude.{◌≡◌, ◌↔◌, true, cond, List, [], ◌∷◌, map, ◌++◌, ℕ, ◌≤◌, length, take, drop, Ok, Result}
 use Rattle.sets.specs.Lists.{tabulate}
 use Rattle.sets.specs.Words.{bit}
 use Rattle.program.specs.declared.Program.{Program}
@@ -10,14 +11,11 @@ use Rattle.program.specs.Held.{released}
 use Rattle.program.specs.Names.{names_of, ends_dated}
 use Rattle.program.specs.Values.{is_word, sum_for}
 use Rattle.program.specs.Valid.{valid, Sized}
-use Rattle.program.specs.declared.Verdict.TheVariants.{Accepted}
 use Rattle.text.specs.declared.Read.{Read}
-use Rattle.text.specs.declared.Written.{Written}
-use Rattle.text.specs.declared.Written.TheVariants.{Length}
 use Rattle.text.specs.Lines.{lines, items, first_line, clause_lines, row}
 use Rattle.text.specs.Render.{book_items}
 use Rattle.text.specs.Reading.{row_of_numbers, read_of}
-use Rattle.text.specs.Writing.{Writes}
+use Rattle.text.specs.Writing.{Writes, Written}
 use Rattle.semantics.specs.Definitions.{PStable}
 use Rattle.semantics.specs.Interpretations.{rules_of}
 use Rattle.stable.specs.declared.Checked.{Checked}
@@ -37,20 +35,20 @@ pub record ReadsExactly (b : List ℕ) (p : Program) : Type 0 where
 
 -- ---- "and written back gives the same bytes": the text b at the start of the slice that is lent, with its length for the answer
 pub record WritesBack (b : List ℕ) (out : List ℕ) (a : Written) (exit : List ℕ) : Type 0 where
-  pub length_told : a ≡ Length (length b)
+  pub length_told : a ≡ Ok (length b)
   pub bytes : exit ≡ b ++ drop (length b) out
 
 -- ---- demand 2, of every call that meets its contract, as every call is proved to
 pub record Demand2 : Type 0 where
   -- "A book is read as exactly its clauses"
-  pub reads : (b : List ℕ) (r : Read) → r ≡ read_of b → r.verdict ≡ Accepted → ReadsExactly b r.program
+  pub reads : (b : List ℕ) (r : Read) → r ≡ read_of b → r.verdict ≡ Ok tt → ReadsExactly b r.program
   -- "and written back gives the same bytes", wherever they have room
-  pub writes_back : (b : List ℕ) (r : Read) → r ≡ read_of b → r.verdict ≡ Accepted
+  pub writes_back : (b : List ℕ) (r : Read) → r ≡ read_of b → r.verdict ≡ Ok tt
       → (out : List ℕ) (a : Written) (exit : List ℕ) → Writes r.program out a exit → length b ≤ length out → WritesBack b out a exit
   -- and what is written is read as the very table, with nothing held; document 02, U5: "Reading a written table therefore gives it without the held clause."
   -- (`Sized` is what a table's type gives: the lengths of its arrays, and that days are 16-bit numbers)
-  pub reads_back : (p : Program) → Sized p → (out : List ℕ) (a : Written) (exit : List ℕ) → Writes p out a exit → (n : ℕ) → a ≡ Length n
-      → (r : Read) → r ≡ read_of (take n exit) → (r.verdict ≡ Accepted) × (r.program ≡ released p)
+  pub reads_back : (p : Program) → Sized p → (out : List ℕ) (a : Written) (exit : List ℕ) → Writes p out a exit → (n : ℕ) → a ≡ Ok n
+      → (r : Read) → r ≡ read_of (take n exit) → (r.verdict ≡ Ok tt) × (r.program ≡ released p)
   -- "a candidate is called p-stable exactly when Definition 3.1 of Sakama and Inoue says so", of the clauses of the day
-  pub stable_exactly : (p : Program) (d w : ℕ) (r : Checked) → Checks p d w r
-      → (r ≡ Stable) ↔ ((valid p ≡ true) × (is_word p.atom_count w ≡ true) × PStable (rules_of (clauses p d)) (bit w))
+  pub stable_exactly : (p : Program) (d w : ℕ) (r : Result Checked Refusal) → Checks p d w r
+      → (r ≡ Ok Stable) ↔ ((valid p ≡ true) × (is_word p.atom_count w ≡ true) × PStable (rules_of (clauses p d)) (bit w))

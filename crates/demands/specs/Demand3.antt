@@ -2,7 +2,9 @@
 -- what is listed is the lowest p-stable models, rising, each once; complete says all, and exactly when document 01 says;
 -- outcome, refusal, list and nodes visited are document 01's."
 -- Document 02, U13: the properties "speak .. about the clauses of the day and compare runs for one day"; d is the day of every run here. Assumes nothing.
-use Rattle.std.specs.Prelude.{◌≡◌, ◌↔◌, ◌⊎◌, true, false, List, [], ℕ, ◌*◌, ◌^◌, ◌≤◌, ◌<◌, min, length, take, drop}
+use Rattle.program.specs.declared.Refusal.TheVariants.{InvalidProgram, TooManyMembers, TooLittleRoom}
+use Rattle.program.specs.declared.Refusal.{Refusal}
+use Rattle.std.specs.Prelude.{◌≡◌, ◌↔◌, ◌⊎◌, true, false, List, [], ℕ, ◌*◌, ◌^◌, ◌≤◌, ◌<◌, min, length, take, drop, Result, Ok, Err}
 use Rattle.sets.specs.Lists.{◌∈◌, Rising, Begins}
 use Rattle.sets.specs.Words.{◌⊑◌, bit}
 use Rattle.program.specs.declared.Program.{Program}
@@ -13,7 +15,7 @@ use Rattle.semantics.specs.Interpretations.{rules_of, models}
 use Rattle.operator.specs.Operator.{stage}
 use Rattle.stages.specs.Run.{ending, EndsRun}
 use Rattle.program.specs.declared.Outcome.{Outcome}
-use Rattle.program.specs.declared.Outcome.TheVariants.{Complete, Full, Spent, Refused}
+use Rattle.program.specs.declared.Outcome.TheVariants.{Complete, Full, Spent}
 use Rattle.tree.specs.Tree.{hits}
 use Rattle.tree.specs.declared.SearchAnswer.{SearchAnswer}
 use Rattle.tree.specs.Answer.{nodes_of, leaf_of, Searches}
@@ -36,7 +38,7 @@ lent (searched A l) = l
 lent (fixed l w v) = l
 
 -- what a run answers, and the lent list at its exit: the very functions that the contracts of the two calls are stated by
-unfoldable pub outcome : Program → ℕ → Run → Outcome
+unfoldable pub outcome : Program → ℕ → Run → Result Outcome Refusal
 outcome p d (searched A l) = (search.answer_of p d A l).outcome
 outcome p d (fixed l w v) = (fixpoint.answer_of p d l w v).outcome
 
@@ -78,20 +80,20 @@ leaves_in p d A = hits (leaf_of p d) (take A (nodes_of p d))
 
 pub record BySearch (p : Program) (d : ℕ) (A : ℕ) (l : List ℕ) : Type 0 where
   -- "if among the first A nodes one is p-stable and the list is full already, .. full"
-  pub full : (outcome p d (searched A l) ≡ Full) ↔ (length l < length (leaves_in p d A))
+  pub full : (outcome p d (searched A l) ≡ Ok Full) ↔ (length l < length (leaves_in p d A))
   -- "Else if A < N it is spent"
-  pub spent : (outcome p d (searched A l) ≡ Spent) ↔ ((length (leaves_in p d A) ≤ length l) × (A < N p d))
+  pub spent : (outcome p d (searched A l) ≡ Ok Spent) ↔ ((length (leaves_in p d A) ≤ length l) × (A < N p d))
   -- "Else it is complete": the allowance reaches N, and the list has a place for every p-stable model
-  pub complete : (outcome p d (searched A l) ≡ Complete) ↔ ((N p d ≤ A) × (length (all_models p d) ≤ length l))
+  pub complete : (outcome p d (searched A l) ≡ Ok Complete) ↔ ((N p d ≤ A) × (length (all_models p d) ≤ length l))
   -- "the search [meets] 9", and nothing else
-  pub never_refused : (n : ℕ) → outcome p d (searched A l) ≡ Refused n → ⊥
+  pub never_refused : (r : Refusal) → outcome p d (searched A l) ≡ Err r → ⊥
   pub writes : written p d (searched A l) ≡ min (length l) (length (leaves_in p d A))
   -- "the first such node ends the run as full and is counted": with it one p-stable leaf too many was visited, and not before
-  pub visits_full : outcome p d (searched A l) ≡ Full
+  pub visits_full : outcome p d (searched A l) ≡ Ok Full
       → (length l < length (leaves_in p d (visited p d (searched A l)))) × ((m : ℕ) → m < visited p d (searched A l) → length (leaves_in p d m) ≤ length l)
   -- "spent, with A nodes visited"; "complete, with N visited"
-  pub visits_spent : outcome p d (searched A l) ≡ Spent → visited p d (searched A l) ≡ A
-  pub visits_complete : outcome p d (searched A l) ≡ Complete → visited p d (searched A l) ≡ N p d
+  pub visits_spent : outcome p d (searched A l) ≡ Ok Spent → visited p d (searched A l) ≡ A
+  pub visits_complete : outcome p d (searched A l) ≡ Ok Complete → visited p d (searched A l) ≡ N p d
 
 -- ---- a run by fixpoint, of an accepted table
 -- "Some stage, up to the one that ends the run, has more members than the working room."
@@ -102,17 +104,17 @@ pub record ByFixpoint (p : Program) (d : ℕ) (l w v : List ℕ) : Type 0 where
   -- "The run ends at the first stage equal to the one before", and that stage is the one that `ending` names
   pub ends : vocabulary p d ≤ 64 → EndsRun (transform_of p d) (vocabulary p d) (ending (transform_of p d))
   -- 11: "W exceeds 64"
-  pub eleven : (outcome p d (fixed l w v) ≡ Refused 11) ↔ (64 < vocabulary p d)
+  pub eleven : (outcome p d (fixed l w v) ≡ Err TooManyMembers) ↔ (64 < vocabulary p d)
   -- 12, "of several that apply, the lowest is given"
-  pub twelve : (outcome p d (fixed l w v) ≡ Refused 12) ↔ ((vocabulary p d ≤ 64) × Crowded p d (room_of w v))
-  pub no_other : (n : ℕ) → outcome p d (fixed l w v) ≡ Refused n → (n ≡ 11) ⊎ (n ≡ 12)
+  pub twelve : (outcome p d (fixed l w v) ≡ Err TooLittleRoom) ↔ ((vocabulary p d ≤ 64) × Crowded p d (room_of w v))
+  pub no_other : (r : Refusal) → outcome p d (fixed l w v) ≡ Err r → (r ≡ TooManyMembers) ⊎ (r ≡ TooLittleRoom)
   -- "Outcome: complete, or full if the list is too short for them all"
-  pub full : (outcome p d (fixed l w v) ≡ Full) ↔ ((vocabulary p d ≤ 64) × (Crowded p d (room_of w v) → ⊥) × (length l < length (all_models p d)))
-  pub complete : (outcome p d (fixed l w v) ≡ Complete) ↔ ((vocabulary p d ≤ 64) × (Crowded p d (room_of w v) → ⊥) × (length (all_models p d) ≤ length l))
-  pub never_spent : outcome p d (fixed l w v) ≡ Spent → ⊥
+  pub full : (outcome p d (fixed l w v) ≡ Ok Full) ↔ ((vocabulary p d ≤ 64) × (Crowded p d (room_of w v) → ⊥) × (length l < length (all_models p d)))
+  pub complete : (outcome p d (fixed l w v) ≡ Ok Complete) ↔ ((vocabulary p d ≤ 64) × (Crowded p d (room_of w v) → ⊥) × (length (all_models p d) ≤ length l))
+  pub never_spent : outcome p d (fixed l w v) ≡ Ok Spent → ⊥
   -- "as many as fit"; "counts are 0" where refused
-  pub writes : ((n : ℕ) → outcome p d (fixed l w v) ≡ Refused n → ⊥) → written p d (fixed l w v) ≡ min (length l) (length (all_models p d))
-  pub writes_none : (n : ℕ) → outcome p d (fixed l w v) ≡ Refused n → written p d (fixed l w v) ≡ 0
+  pub writes : ((r : Refusal) → outcome p d (fixed l w v) ≡ Err r → ⊥) → written p d (fixed l w v) ≡ min (length l) (length (all_models p d))
+  pub writes_none : (r : Refusal) → outcome p d (fixed l w v) ≡ Err r → written p d (fixed l w v) ≡ 0
 
 -- what document 01 says of the route that a run goes
 unfoldable pub ByRoute : Program → ℕ → Run → Type 0
@@ -128,13 +130,13 @@ pub record OneRun (p : Program) (d : ℕ) (r : Run) : Type 0 where
   -- document 02, U7: "no model in a list lies within another"
   pub none_within : (v w : ℕ) → v ∈ listed p d r → w ∈ listed p d r → bit v ⊑ bit w → v ≡ w
   -- "complete says all"
-  pub complete_all : outcome p d r ≡ Complete → listed p d r ≡ all_models p d
+  pub complete_all : outcome p d r ≡ Ok Complete → listed p d r ≡ all_models p d
   -- "List places beyond those written keep their content.", and the list keeps its length
   pub behind : drop (written p d r) (exit p d r) ≡ drop (written p d r) (lent r)
   pub places : length (exit p d r) ≡ length (lent r)
   -- "A table is accepted when refusal 9 does not apply to it."; "a refused run lists none", and "counts are 0"
-  pub nine : (outcome p d r ≡ Refused 9) ↔ (valid p ≡ false)
-  pub refused : (n : ℕ) → outcome p d r ≡ Refused n → (listed p d r ≡ []) × (visited p d r ≡ 0)
+  pub nine : (outcome p d r ≡ Err InvalidProgram) ↔ (valid p ≡ false)
+  pub refused : (q : Refusal) → outcome p d r ≡ Err q → (listed p d r ≡ []) × (visited p d r ≡ 0)
   -- "outcome, refusal, list and nodes visited are document 01's"
   pub by_route : valid p ≡ true → ByRoute p d r
 
@@ -149,7 +151,7 @@ pub record TwoRuns (p : Program) (d : ℕ) (r s : Run) : Type 0 where
   pub second : OneRun p d s
 
 -- ---- that this is about the code: what the contract of a call promises is what its run answers and leaves
-pub record Ran (p : Program) (d : ℕ) (r : Run) (o : Outcome) (n : ℕ) (left : List ℕ) : Type 0 where
+pub record Ran (p : Program) (d : ℕ) (r : Run) (o : Result Outcome Refusal) (n : ℕ) (left : List ℕ) : Type 0 where
   pub outcome_is : o ≡ outcome p d r
   pub written_is : n ≡ written p d r
   pub exit_is : left ≡ exit p d r

@@ -1,15 +1,15 @@
 -- Document 02, U7: "For each accepted table with nothing held and each integrity constraint that the holding call takes,
 -- the p-stable models once it is kept are exactly those before that satisfy the constraint." Assumes nothing.
-use Rattle.std.specs.Prelude.{◌≡◌, true, ℕ, ◌≤◌}
+use Rattle.program.specs.Refusals.{verdict_of}
+use Rattle.std.specs.Prelude.{◌≡◌, true, ℕ, ◌≤◌, Ok}
 use Rattle.sets.specs.Lists.{sift}
 use Rattle.program.specs.declared.Program.{Program}
-use Rattle.program.specs.declared.Verdict.TheVariants.{Accepted}
 use Rattle.program.specs.Clauses.{Clause}
 use Rattle.program.specs.Valid.{Sized}
 use Rattle.semantics.specs.Interpretations.{satisfies}
 use Rattle.held.specs.declared.HoldAnswer.{HoldAnswer}
 use Rattle.held.specs.declared.ClearAnswer.{ClearAnswer}
-use Rattle.held.specs.Holding.{hold_of, of_hold}
+use Rattle.held.specs.Holding.{hold_of}
 use Rattle.held.specs.Clearing.{keep_of}
 use Rattle.demands.specs.Demand3.{all_models}
 
@@ -30,6 +30,6 @@ pub record Constrained (p : Program) (c : Clause) (f l : ℕ) (q : Program) (d :
 abbrev pub TakesAway : Type 0
 TakesAway =
     (p : Program) → Sized p → (c : Clause) → c.head ≡ 0 → (f l : ℕ)
-    → (h : HoldAnswer) → h ≡ hold_of p c f l → of_hold h.status ≡ Accepted
+    → (h : HoldAnswer) → h ≡ hold_of p c f l → verdict_of h.status ≡ Ok tt
     → (k : ClearAnswer) → k ≡ keep_of h.program
     → (d : ℕ) → Constrained p c f l k.program d

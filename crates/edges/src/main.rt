@@ -45,7 +45,7 @@ fn is_answered(
     if whole {
         return ask(rt, edge, text, line);
     }
-    saying::is_enough(rt, answers::RECORD, 1, 0)
+    saying::is_enough(rt, answers::Source::Record, 1, 0)
 }
 
 // Where the next record begins; 0 where this one disagrees, as one does that the file's end cuts.
@@ -54,36 +54,32 @@ fn behind_record(rt: &impl Print, edge: Edge, file: &[u8], at: usize) -> io::Res
     ensures { IfOk result (λ next. next ≤ length file.now) }
 {
     let r = records::record_at(file, at);
-    let text = r.text;
-    let text_end = r.text_end;
-    let line = r.line;
-    let line_end = r.line_end;
     if is_answered(
         rt,
         edge,
         r.whole,
-        &file[text..text_end],
-        &file[line..line_end],
+        &file[r.text..r.text_end],
+        &file[r.line..r.line_end],
     )? {
         return Ok(r.next);
     }
-    let label_end = r.label_end;
     saying::print(rt, b", at ")?;
-    saying::print(rt, &file[at..label_end])?;
+    saying::print(rt, &file[at..r.label_end])?;
     saying::print(rt, b"\n")?;
     Ok(0)
 }
 
 // How many records agree; none where one does not.
 fn count_agreeing(rt: &impl Print, edge: Edge, file: &[u8]) -> io::Result<u64> {
-    let mut at: usize = 0;
+    let mut at = 0;
     let mut agree: u64 = 0;
+    // A `while`: each record says where the next begins.
     while at < file.len() {
         let next = behind_record(rt, edge, file, at)?;
         if next <= at {
             return Ok(0);
         }
-        agree = std::num::wrapping_add_u64(agree, 1);
+        agree = agree.wrapping_add(1);
         at = next;
     }
     Ok(agree)

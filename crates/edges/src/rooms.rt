@@ -1,18 +1,18 @@
 // The fixpoint has room for the largest stage of a book, and one place less in either slice is too few: refusal 12.
 use crate::asking::ROOM;
 use crate::{asking, saying};
-use answers::ANY;
-use program::Outcome;
+use answers::{ANY, Source};
+use program::{Outcome, Refusal};
 use std::io;
 
 pub fn agrees(rt: &impl Print, text: &[u8], largest: u64) -> io::Result<bool> {
     let p = asking::table_of(text);
     let room = largest as usize;
     if room == 0 {
-        return saying::is_enough(rt, answers::RECORD, 1, 0);
+        return saying::is_enough(rt, Source::Record, 1, 0);
     }
-    let taken = answers_made::of_outcome(Outcome::Complete, ANY, 0);
-    let refused = answers_made::of_outcome(Outcome::Refused(program::TOO_LITTLE_ROOM), 0, 0);
+    let taken = answers_made::of_outcome(Ok(Outcome::Complete), ANY, 0);
+    let refused = answers_made::of_outcome(Err(Refusal::TooLittleRoom), 0, 0);
     Ok(
         asking::fixpoint_ends(rt, p, room, room, taken)?
             && asking::fixpoint_ends(rt, p, room - 1, room, refused)?

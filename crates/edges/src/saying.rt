@@ -1,18 +1,27 @@
 // What is printed of a record: what was found where something else was expected, as the numbers of `answers`.
-use answers::{Answer, PLACES};
+use answers::{Answer, PLACES, Source};
 use std::io;
 
 pub fn print(rt: &impl Print, text: &[u8]) -> io::Result<()> {
     rt.write_all(text)
 }
 
-// The name at the place `k`, where each has eight bytes.
-fn print_name(rt: &impl Print, names: &[u8], k: usize) -> io::Result<()> {
-    if k < names.len() / 8 {
-        let start = 8 * k;
-        print(rt, &names[start..start + 8])?;
+// What gave an answer, in eight bytes.
+fn name_of(source: Source) -> &'static [u8] {
+    match source {
+        Source::Reader => b"reader  ",
+        Source::Writer => b"writer  ",
+        Source::Search => b"search  ",
+        Source::Fixpoint => b"fixpoint",
+        Source::Check => b"check   ",
+        Source::Summary => b"summary ",
+        Source::List => b"list    ",
+        Source::Text => b"text    ",
+        Source::Record => b"record  ",
+        Source::Hold => b"hold    ",
+        Source::Keep => b"keep    ",
+        Source::Release => b"release ",
     }
-    Ok(())
 }
 
 pub fn print_number(rt: &impl Print, before: &[u8], n: u64) -> io::Result<()> {
@@ -27,14 +36,10 @@ fn print_answer(rt: &impl Print, a: Answer) -> io::Result<()> {
 }
 
 // Whether what was found is as expected; both are printed where it is not.
-pub fn agree(rt: &impl Print, source: usize, expected: Answer, found: Answer) -> io::Result<bool> {
+pub fn agree(rt: &impl Print, source: Source, expected: Answer, found: Answer) -> io::Result<bool> {
     let agrees = answers_compared::agree(expected, found);
     if !agrees {
-        print_name(
-            rt,
-            b"reader  writer  search  fixpointcheck   summary list    text    record  hold    keep    release ",
-            source,
-        )?;
+        print(rt, name_of(source))?;
         print_answer(rt, found)?;
         print(rt, b", expected")?;
         print_answer(rt, expected)?;
@@ -45,13 +50,11 @@ pub fn agree(rt: &impl Print, source: usize, expected: Answer, found: Answer) ->
 // Whether no place of the list was written.
 pub fn is_untouched(rt: &impl Print, list: &[u32; PLACES]) -> io::Result<bool> {
     let d = answers_compared::list_difference(list, &[]);
-    let free = d.expected;
-    let held = d.found;
-    agree(rt, answers::LIST, free, held)
+    agree(rt, Source::List, d.expected, d.found)
 }
 
 // Whether there is as much as is needed.
-pub fn is_enough(rt: &impl Print, source: usize, least: u64, found: u64) -> io::Result<bool> {
+pub fn is_enough(rt: &impl Print, source: Source, least: u64, found: u64) -> io::Result<bool> {
     if least <= found {
         return Ok(true);
     }

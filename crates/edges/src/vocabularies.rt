@@ -1,21 +1,15 @@
 // The fixpoint is refused by 11 exactly where W exceeds 64, which alone decides, as the stages of these books are small.
-use crate::asking;
-use crate::asking::ROOM;
+use crate::asking::{self, ROOM};
 use answers::ANY;
 use program::Outcome;
 use std::io;
 
 // The number is the refusal, 0 for none.
 pub fn agrees(rt: &impl Print, text: &[u8], refusal: u64) -> io::Result<bool> {
-    let p = asking::table_of(text);
-    if refusal == 0 {
-        return asking::fixpoint_ends(
-            rt,
-            p,
-            ROOM,
-            ROOM,
-            answers_made::of_outcome(Outcome::Complete, ANY, 0),
-        );
-    }
-    asking::fixpoint_ends(rt, p, ROOM, ROOM, answers_made::made(refusal, 0, 0))
+    let expected = if refusal == 0 {
+        answers_made::of_outcome(Ok(Outcome::Complete), ANY, 0)
+    } else {
+        answers_made::made(refusal, 0, 0)
+    };
+    asking::fixpoint_ends(rt, asking::table_of(text), ROOM, ROOM, expected)
 }

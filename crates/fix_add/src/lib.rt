@@ -24,13 +24,9 @@ pub fn add(set: &mut [u64], members: usize, x: u64) -> usize
         return members;
     }
     let t = insert_behind(set, m, members - m, x);
-    if t < 256 {
-        return m + t;
+    if 256 <= t && m + t <= set.len() {
+        fix_merge::merge(set, m, t);
     }
-    if set.len() < m + t {
-        return m + t;
-    }
-    fix_merge::merge(set, m, t);
     m + t
 }
 

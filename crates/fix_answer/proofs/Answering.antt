@@ -1,4 +1,7 @@
 -- The ways that the fixpoint's routines return, one law for each, with premises that are what tests and callees give. Assumes nothing.
+use Rattle.program.specs.declared.Refusal.TheVariants.{TooLittleRoom, InvalidProgram, TooManyMembers}
+use Rattle.program.specs.declared.Refusal.{Refusal}
+use Rattle.std.specs.Prelude.{Ok, Err}
 use mathlib.Core.Path.{◌≡◌, refl, sym, ap, ap₂, ◌∙◌, subst}
 use mathlib.Core.Bool.{Bool, true, false, cond, not}
 use mathlib.Core.List.{List}
@@ -16,7 +19,7 @@ use Rattle.program.specs.Clauses.{Clause, Below, clause_at, standing}
 use Rattle.program.specs.Days.{clauses, RowsOfDay}
 use Rattle.program.specs.Only.{only_of}
 use Rattle.program.specs.Valid.{is_clause, valid}
-use Rattle.program.specs.Refusals.{lowest}
+use Rattle.program.specs.Refusals.{lowest, numbered}
 use Rattle.program.proofs.Validity.{valid_clauses, clause_below}
 use Rattle.program.proofs.Days.{DayTable, day_table}
 use Rattle.operator.specs.Operator.{WordRule, rule_at}
@@ -28,7 +31,7 @@ use Rattle.rewriting.specs.Rewriting.{ClausesOver}
 use Rattle.vocabulary.specs.Vocabulary.{literals_of, vocabulary}
 use Rattle.vocabulary.proofs.Counting.{names-few, clauses-few, column_fits, of_day_lem}
 use Rattle.transform.specs.Listing.{parts_of, listing}
-use Rattle.program.specs.declared.Outcome.TheVariants.{Complete, Full, Refused}
+use Rattle.program.specs.declared.Outcome.TheVariants.{Complete, Full}
 use Rattle.fix_answer.specs.declared.FixpointAnswer.{FixpointAnswer}
 use Rattle.parts.specs.Overwriting.{overwrite, Overwrites}
 use Rattle.fix_answer.specs.Answer.{listed, refused, run_answer, run_exit, Answered, kappa, transform_of, found, room_of, refusal, answer_of}
@@ -36,17 +39,17 @@ use Rattle.fix_answer.specs.Answer.{exit_of, Fixes}
 use Rattle.fix_answer.proofs.Size.{program_short}
 
 -- ---- the answer's two counts
-pub listed_all : (count places : ℕ) → count ≤ places → record { outcome = Complete; written = count } ≡ listed count places
+pub listed_all : (count places : ℕ) → count ≤ places → record { outcome = Ok Complete; written = count } ≡ listed count places
 unfolding listed
-listed_all count places h = let e : count ≡ min count places = omega arith in rw (le-leb count places h) (ap (λ (w : ℕ). record { outcome = Complete; written = w }) e)
+listed_all count places h = let e : count ≡ min count places = omega arith in rw (le-leb count places h) (ap (λ (w : ℕ). record { outcome = Ok Complete; written = w }) e)
 
-pub listed_some : (count places : ℕ) → places < count → record { outcome = Full; written = places } ≡ listed count places
+pub listed_some : (count places : ℕ) → places < count → record { outcome = Ok Full; written = places } ≡ listed count places
 unfolding listed
-listed_some count places h = let e : places ≡ min count places = omega arith in rw (lt-leb count places h) (ap (λ (w : ℕ). record { outcome = Full; written = w }) e)
+listed_some count places h = let e : places ≡ min count places = omega arith in rw (lt-leb count places h) (ap (λ (w : ℕ). record { outcome = Ok Full; written = w }) e)
 
-pub refused_is : (n : ℕ) → record { outcome = Refused n; written = 0 } ≡ refused n
+pub refused_is : (r : Refusal) → record { outcome = Err r; written = 0 } ≡ refused r
 unfolding refused
-refused_is n = refl
+refused_is r = refl
 
 -- ---- over a positive program, with working slices of one length
 module _ (Q : List WordRule) (room n : ℕ) (first second : List ℕ) (d : Minimals Q room n first second) where
@@ -56,7 +59,7 @@ module _ (Q : List WordRule) (room n : ℕ) (first second : List ℕ) (d : Minim
   pub second_fits : n ≤ room → n ≤ length second
   second_fits h = omega (arith, d.second_length)
 
-  pub refused-crowded : (m : ℕ) (xs : List ℕ) (r : FixpointAnswer) → room < n → r ≡ refused 12 → Answered m Q room xs xs r
+  pub refused-crowded : (m : ℕ) (xs : List ℕ) (r : FixpointAnswer) → room < n → r ≡ refused TooLittleRoom → Answered m Q room xs xs r
   unfolding run_answer run_exit
   refused-crowded m xs r h e = go (crowded Q room) refl
     where
@@ -157,16 +160,16 @@ pub few-members : (q : Program) (n : ℕ) → n ≡ members (literals_of q) (sta
 few-members q n e h = omega arith
 
 module _ (p : Program) (d : ℕ) (l₀ w₀ v₀ w v : List ℕ) (b : Bool) (is : b ≡ valid p) where
-  pub no_table : (r : FixpointAnswer) → not b ≡ true → r ≡ refused 9 → length w ≡ length w₀ → length v ≡ length v₀ → Fixes p d l₀ w₀ v₀ r l₀ w v
-  unfolding answer_of exit_of refusal lowest
+  pub no_table : (r : FixpointAnswer) → not b ≡ true → r ≡ refused InvalidProgram → length w ≡ length w₀ → length v ≡ length v₀ → Fixes p d l₀ w₀ v₀ r l₀ w v
+  unfolding answer_of exit_of refusal lowest numbered
   no_table r h q lw lv = let f : valid p ≡ false = sym is ∙ not-true b h in record { says = q ∙ rw f; lists = rw f; first_length = lw; second_length = lv }
 
   module _ (s : ℕ) (gathered : RowsOfDay p d s) (q : Program) (only : q ≡ only_of p s) (n : ℕ) (counts : n ≡ members (literals_of q) (standing q)) where
     counted : not b ≡ false → n ≡ vocabulary p d
     counted h = counts ∙ of_day_lem p d q (the_day p d b is s gathered q only h)
 
-    pub too_many : (r : FixpointAnswer) → not b ≡ false → 64 < n → r ≡ refused 11 → length w ≡ length w₀ → length v ≡ length v₀ → Fixes p d l₀ w₀ v₀ r l₀ w v
-    unfolding answer_of exit_of refusal lowest
+    pub too_many : (r : FixpointAnswer) → not b ≡ false → 64 < n → r ≡ refused TooManyMembers → length w ≡ length w₀ → length v ≡ length v₀ → Fixes p d l₀ w₀ v₀ r l₀ w v
+    unfolding answer_of exit_of refusal lowest numbered
     too_many r h m e lw lv =
         let t = is_table p b is h in
         let f : ltb 64 (vocabulary p d) ≡ true = lt-ltb 64 (vocabulary p d) (omega (arith, counted h)) in
@@ -183,7 +186,7 @@ module _ (p : Program) (d : ℕ) (l₀ w₀ v₀ w v : List ℕ) (b : Bool) (is 
 
     pub fixed : (r : FixpointAnswer) (l : List ℕ) → Answered (literals_of q) (kappa (literals_of q) (standing q)) (room_of w₀ v₀) l₀ l r
         → not b ≡ false → n ≤ 64 → length w ≡ length w₀ → length v ≡ length v₀ → Fixes p d l₀ w₀ v₀ r l w v
-    unfolding answer_of exit_of refusal lowest found run_answer run_exit
+    unfolding answer_of exit_of refusal lowest numbered found run_answer run_exit
     fixed r l a h m lw lv = go (crowded (transform_of p d) (room_of w₀ v₀)) refl
       where
         t : valid p ≡ true

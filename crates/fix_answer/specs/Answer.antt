@@ -1,30 +1,32 @@
 -- The answer of the fixpoint for every table, every day, every list and every two working slices. Assumes nothing.
-use Rattle.std.specs.Prelude.{◌≡◌, Bool, cond, not, List, [], ◌∷◌, ℕ, ◌+◌, min, eqb, leb, ltb, length}
+use Rattle.std.specs.Prelude.{◌≡◌, Bool, cond, not, List, [], ◌∷◌, ℕ, ◌+◌, min, eqb, leb, ltb, length, Ok, Err}
 use Rattle.program.specs.declared.Program.{Program}
 use Rattle.program.specs.Clauses.{Clause}
 use Rattle.program.specs.Days.{clauses}
 use Rattle.program.specs.Valid.{valid}
-use Rattle.program.specs.Refusals.{lowest}
+use Rattle.program.specs.Refusals.{lowest, refusal_of}
 use Rattle.operator.specs.Operator.{WordRule}
 use Rattle.stages.specs.Run.{crowded}
 use Rattle.transform.specs.Transform.{kappa_from}
 use Rattle.vocabulary.specs.Vocabulary.{literals_of, vocabulary}
-use Rattle.program.specs.declared.Outcome.TheVariants.{Complete, Full, Refused}
+use Rattle.program.specs.declared.Outcome.TheVariants.{Complete, Full}
+use Rattle.program.specs.declared.Refusal.{Refusal}
+use Rattle.program.specs.declared.Refusal.TheVariants.{TooLittleRoom}
 use Rattle.fix_answer.specs.declared.FixpointAnswer.{FixpointAnswer}
 use Rattle.transform.specs.Listing.{listing}
 use Rattle.parts.specs.Overwriting.{overwrite}
 
 -- "Outcome: complete, or full if the list is too short for them all; it then holds the lowest ones, as many as fit."
 unfoldable pub listed : ℕ → ℕ → FixpointAnswer
-listed count places = record { outcome = cond (leb count places) Complete Full; written = min count places }
+listed count places = record { outcome = Ok (cond (leb count places) Complete Full); written = min count places }
 
 -- "A refusal carries its number .. and counts are 0."
-unfoldable pub refused : ℕ → FixpointAnswer
-refused n = record { outcome = Refused n; written = 0 }
+unfoldable pub refused : Refusal → FixpointAnswer
+refused r = record { outcome = Err r; written = 0 }
 
 -- ---- over a positive program of words whose m lowest members are the literals
 unfoldable pub run_answer : ℕ → List WordRule → ℕ → ℕ → FixpointAnswer
-run_answer m Q room places = cond (crowded Q room) (refused 12) (listed (length (listing m Q)) places)
+run_answer m Q room places = cond (crowded Q room) (refused TooLittleRoom) (listed (length (listing m Q)) places)
 
 unfoldable pub run_exit : ℕ → List WordRule → ℕ → List ℕ → List ℕ
 run_exit m Q room xs = cond (crowded Q room) xs (overwrite xs (listing m Q))
@@ -59,7 +61,7 @@ refusal p d room = lowest (refusals p d room)
 
 -- the answer, and the lent list at exit
 unfoldable pub answer_of : Program → ℕ → List ℕ → List ℕ → List ℕ → FixpointAnswer
-answer_of p d l w v = cond (eqb (refusal p d (room_of w v)) 0) (listed (length (found p d)) (length l)) (refused (refusal p d (room_of w v)))
+answer_of p d l w v = cond (eqb (refusal p d (room_of w v)) 0) (listed (length (found p d)) (length l)) (refused (refusal_of (refusal p d (room_of w v))))
 
 unfoldable pub exit_of : Program → ℕ → List ℕ → List ℕ → List ℕ → List ℕ
 exit_of p d l w v = cond (eqb (refusal p d (room_of w v)) 0) (overwrite l (found p d)) l

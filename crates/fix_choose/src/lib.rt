@@ -13,7 +13,7 @@ ghost use Rattle.operator.specs.Operator.{rule_at, fired, Chosen};
 fn sets_aside(head: u64, n: usize) -> bool
     ensures { result ≡ (ltb 1 (ones head) && ltb n 64) }
 {
-    (1 < u64::count_ones(head)) & (n < 64)
+    1 < head.count_ones() && n < 64
 }
 
 // Puts into the set every set made of `j`, a literal of each of the first `n` heads in `wide`, and one head literal, chosen every way, of each clause from `k` on whose body lies in `i`.
@@ -45,14 +45,12 @@ pub fn choose<'a>(
         return choose(heads, bodies, count, i, k + 1, j, wide, n + 1, set, members);
     }
     let mut m = members;
-    let mut rest = head;
-    while rest != 0 {
+    for t in literals::members(head) {
         if set.len() < m {
             return m;
         }
-        let v = literals::with(j, literals::lowest(rest));
+        let v = literals::with(j, t);
         m = choose(heads, bodies, count, i, k + 1, v, wide, n, set, m);
-        rest = rest & (rest - 1);
     }
     m
 }

@@ -14,13 +14,11 @@ fn spread(i: u64, rest: u64, set: &mut [u64], members: usize) -> usize
     ensures { Gathered (length set.old) (add_all (one_more i rest) (held members set.old)) set.new result }
 {
     let mut m = members;
-    let mut left = rest;
-    while left != 0 {
+    for t in literals::members(rest) {
         if set.len() < m {
             return m;
         }
-        m = fix_add::add(set, m, literals::with(i, literals::lowest(left)));
-        left = left & (left - 1);
+        m = fix_add::add(set, m, literals::with(i, t));
     }
     m
 }
@@ -58,6 +56,7 @@ pub fn close<'a>(
 {
     let mut m = members;
     let mut from: u64 = 0;
+    // A `loop`: members are put in before and behind the place as it goes.
     loop {
         let p = fix_insert::least_from(set, m, from);
         if p == m {
@@ -68,7 +67,7 @@ pub fn close<'a>(
         if set.len() < m {
             return m;
         }
-        if i == 18446744073709551615 {
+        if i == u64::MAX {
             return m;
         }
         from = i + 1;

@@ -13,7 +13,7 @@ fn highest(s: u64) -> u64
     requires { 0 < s }
     ensures { Highest s result }
 {
-    1 << (63 - u64::leading_zeros(s))
+    1 << (63 - s.leading_zeros())
 }
 
 // Puts into the set those made of `j` and a literal of each head that hold `w` and, beyond it, only literals of `free`.

@@ -15,12 +15,11 @@ pub fn pick(s: u64, k: usize, partner: &[usize; 64]) -> u32
     ensures { Literal s result }
 {
     let t = matching::matched(s, k, partner);
-    if t < 64 {
-        if s & (1 << t) != 0 {
-            return t as u32;
-        }
+    if t < 64 && s & (1 << t) != 0 {
+        t as u32
+    } else {
+        literals::lowest(s)
     }
-    literals::lowest(s)
 }
 
 // Whether some of the first `n` heads misses `v`.
@@ -28,14 +27,7 @@ fn missed(wide: &[u64; 64], n: usize, v: u64) -> bool
     requires { n ≤ 64 }
     ensures { result ≡ any_of (apart v) (tabulate (head_at wide.now) n) }
 {
-    let mut k: usize = 0;
-    while k < n {
-        if v & wide[k] == 0 {
-            return true;
-        }
-        k += 1;
-    }
-    false
+    wide[..n].iter().any(|head| v & *head == 0)
 }
 
 // How many of the first `n` heads meet `x`.
@@ -43,17 +35,7 @@ fn meeting(wide: &[u64; 64], n: usize, x: u64) -> u32
     requires { n ≤ 64 }
     ensures { result ≡ length (sift (meets x) (tabulate (head_at wide.now) n)) }
 {
-    let mut m: u32 = 0;
-    let mut k: usize = 0;
-    while k < n {
-        if x & wide[k] == 0 {
-            k += 1;
-        } else {
-            m += 1;
-            k += 1;
-        }
-    }
-    m
+    wide[..n].iter().filter(|head| x & **head != 0).count() as u32
 }
 
 // Whether `x` has more literals than the first `n` heads can put in.
@@ -61,7 +43,7 @@ fn too_many(wide: &[u64; 64], n: usize, x: u64) -> bool
     requires { n ≤ 64 }
     ensures { result ≡ ltb (length (sift (meets x) (tabulate (head_at wide.now) n))) (ones x) }
 {
-    meeting(wide, n, x) < u64::count_ones(x)
+    meeting(wide, n, x) < x.count_ones()
 }
 
 // Whether it is seen to be infeasible that a set made of `j` and a literal of each head holds `w` and, beyond it, only literals of `free`. `t` is the literal that came into `w` last, 0 where one was left out last.

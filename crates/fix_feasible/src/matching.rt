@@ -13,20 +13,17 @@ fn place(x: usize) -> usize
 fn lowest_place(s: u64) -> usize
     ensures { result < 64 }
 {
-    place(u64::trailing_zeros(s) as usize)
+    place(s.trailing_zeros() as usize)
 }
 
 // The literal of `s` that the head `k` is matched to, or 64.
 pub fn matched(s: u64, k: usize, partner: &[usize; 64]) -> usize
     ensures { result ≤ 64 }
 {
-    let mut rest = s;
-    while rest != 0 {
-        let t = lowest_place(rest);
-        if partner[t] == k {
-            return t;
+    for t in literals::members(s) {
+        if partner[t as usize] == k {
+            return t as usize;
         }
-        rest = rest & (rest - 1);
     }
     64
 }
@@ -35,8 +32,7 @@ pub fn matched(s: u64, k: usize, partner: &[usize; 64]) -> usize
 fn flip(partner: &mut [usize; 64], from: &[usize; 64], root: usize, t: usize, k: usize) {
     let mut at = place(t);
     let mut head = k;
-    let mut left: usize = 64;
-    while left != 0 {
+    for _ in 0..64 {
         let old = partner[at];
         partner[at] = head;
         if at == root {
@@ -44,7 +40,6 @@ fn flip(partner: &mut [usize; 64], from: &[usize; 64], root: usize, t: usize, k:
         }
         head = old;
         at = place(from[at]);
-        left -= 1;
     }
 }
 
@@ -52,10 +47,9 @@ fn flip(partner: &mut [usize; 64], from: &[usize; 64], root: usize, t: usize, k:
 fn reach(from: &mut [usize; 64], x: u64, m: usize, t: usize) -> u64
     requires { m < 64 }
 {
-    if x & (1 << m) != 0 {
-        return x;
+    if x & (1 << m) == 0 {
+        from[m] = t;
     }
-    from[m] = t;
     x | (1 << m)
 }
 
@@ -72,19 +66,15 @@ fn extend(
     requires { n ≤ 64 }
 {
     let mut y = x;
-    let mut k: usize = 0;
-    while k < n {
-        if wide[k] & y == 0 {
-            k += 1;
-        } else {
-            let t = lowest_place(wide[k] & y);
-            let m = matched(wide[k] & s, k, partner);
+    for (k, head) in wide[..n].iter().enumerate() {
+        if *head & y != 0 {
+            let t = lowest_place(*head & y);
+            let m = matched(*head & s, k, partner);
             if m == 64 {
                 flip(partner, from, root, t, k);
                 return 0;
             }
             y = reach(from, y, m, t);
-            k += 1;
         }
     }
     y
@@ -97,14 +87,12 @@ pub fn augment(wide: &[u64; 64], n: usize, s: u64, t: u64, partner: &mut [usize;
     let root = lowest_place(t);
     let mut from = [0usize; 64];
     let mut x = t;
-    let mut left: usize = 64;
-    while left != 0 {
+    for _ in 0..64 {
         let y = extend(wide, n, s, root, x, partner, &mut from);
         if y == x {
             return x;
         }
         x = y;
-        left -= 1;
     }
     x
 }

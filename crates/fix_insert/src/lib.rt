@@ -12,17 +12,7 @@ fn place(set: &[u64], members: usize, x: u64) -> usize
     requires { (members ≤ length set.now) × Rising (take members set.now) }
     ensures { (result ≡ rank x (take members set.now)) × (result ≤ members) }
 {
-    let mut lo: usize = 0;
-    let mut hi = members;
-    while lo < hi {
-        let mid = lo + (hi - lo) / 2;
-        if set[mid] < x {
-            lo = mid + 1;
-        } else {
-            hi = mid;
-        }
-    }
-    lo
+    set[..members].partition_point(|y| *y < x)
 }
 
 // Moves the members from the place `at` on up by one place.
@@ -30,11 +20,7 @@ fn open(set: &mut [u64], at: usize, members: usize)
     requires { (at ≤ members) × (members < length set.old) }
     ensures { set.new ≡ opened set.old at members }
 {
-    let mut p = members;
-    while at < p {
-        set[p] = set[p - 1];
-        p -= 1;
-    }
+    set.copy_within(at..members, at + 1);
 }
 
 // Whether `x` stands at `at`, among the first `members` places.
@@ -42,10 +28,7 @@ fn stands(set: &[u64], members: usize, at: usize, x: u64) -> bool
     requires { members ≤ length set.now }
     ensures { result ≡ stands_at set.now members at x }
 {
-    if at < members {
-        return set[at] == x;
-    }
-    false
+    at < members && set[at] == x
 }
 
 // Puts `x` into the set in the first `members` places; gives the number of members, or one more than there are places where it would be one too many.
@@ -93,11 +76,9 @@ pub fn least_from(set: &[u64], members: usize, x: u64) -> usize
     if a == m {
         return b;
     }
-    if b == members {
-        return a;
+    if b == members || set[a] < set[b] {
+        a
+    } else {
+        b
     }
-    if set[a] < set[b] {
-        return a;
-    }
-    b
 }

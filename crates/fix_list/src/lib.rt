@@ -7,30 +7,31 @@ ghost use Rattle.operator.specs.Operator.{rule_at};
 ghost use Rattle.fix_answer.specs.Answer.{listed, refused, Answered, room_of};
 
 use fix_answer::FixpointAnswer;
-use program::Outcome;
+use program::{Outcome, Refusal};
 
 // The answer where `count` words were to be listed in so many places.
 fn answer(count: usize, places: usize) -> FixpointAnswer
     ensures { result ≡ listed count places }
 {
     if count <= places {
-        return FixpointAnswer {
-            outcome: Outcome::Complete,
+        FixpointAnswer {
+            outcome: Ok(Outcome::Complete),
             written: count,
-        };
-    }
-    FixpointAnswer {
-        outcome: Outcome::Full,
-        written: places,
+        }
+    } else {
+        FixpointAnswer {
+            outcome: Ok(Outcome::Full),
+            written: places,
+        }
     }
 }
 
 // The answer of a refusal.
-pub fn refuse(number: u8) -> FixpointAnswer
-    ensures { result ≡ refused number }
+pub fn refuse(refusal: Refusal) -> FixpointAnswer
+    ensures { result ≡ refused refusal }
 {
     FixpointAnswer {
-        outcome: Outcome::Refused(number),
+        outcome: Err(refusal),
         written: 0,
     }
 }
@@ -51,7 +52,7 @@ fn list_even<'a>(
     let room = first.len();
     let n = fix_models::minimal_models(heads, bodies, count, first, second);
     if room < n {
-        return refuse(program::TOO_LITTLE_ROOM);
+        return refuse(Refusal::TooLittleRoom);
     }
     let k = parts::list_parts(first, n, m, second, models);
     answer(k, models.len())
@@ -70,7 +71,7 @@ pub fn list_models<'a>(
     requires { (count ≤ length heads.now) × (count ≤ length bodies.now) × (m ≤ 32) }
     ensures { Answered m (tabulate (rule_at heads.now bodies.now) count) (room_of first.old second.old) models.old models.new result }
 {
-    let room = lists::least(first.len(), second.len());
+    let room = first.len().min(second.len());
     list_even(
         heads,
         bodies,

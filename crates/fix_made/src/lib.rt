@@ -23,6 +23,7 @@ fn made<'a>(
         return w == j;
     }
     let mut rest = wide[k] & w;
+    // A `while`: the literal that the head is matched to is tried before the lowest.
     while rest != 0 {
         let t = fix_feasible::pick(rest, k, partner);
         if made(wide, n, w, k + 1, literals::with(j, t), partner) {
@@ -47,7 +48,8 @@ pub fn insert_made<'a>(
     ensures { Gathered (length set.old) (add_all (sift (eqb w) (picks (tabulate (head_at wide.now) n) j)) (held members set.old)) set.new result }
 {
     if made(wide, n, w, 0, j, partner) {
-        return fix_add::add(set, members, w);
+        fix_add::add(set, members, w)
+    } else {
+        members
     }
-    members
 }

@@ -9,11 +9,7 @@ fn keep(set: &[u64], m: usize, k: usize, tail: &mut [u64; 256])
     requires { (m + k ≤ length set.now) × (k ≤ 256) × (length tail.old ≡ 256) }
     ensures { (length tail.new ≡ 256) × (take k tail.new ≡ take k (drop m set.now)) }
 {
-    let mut q: usize = 0;
-    while q < k {
-        tail[q] = set[m + q];
-        q += 1;
-    }
+    tail[..k].copy_from_slice(&set[m..m + k]);
 }
 
 // Whether the last of the first `p` words is above `x`.
@@ -21,10 +17,7 @@ fn above(set: &[u64], p: usize, x: u64) -> bool
     requires { p ≤ length set.now }
     ensures { result ≡ above_at set.now p x }
 {
-    if 0 < p {
-        return x < set[p - 1];
-    }
-    false
+    0 < p && x < set[p - 1]
 }
 
 // Merges the first `m` words and the `k` words behind them, from the greatest word down.
@@ -36,6 +29,7 @@ pub fn merge(set: &mut [u64], m: usize, k: usize)
     keep(set, m, k, &mut tail);
     let mut p = m;
     let mut q = k;
+    // A `while`: each turn takes a word of the one run or of the other, and it ends once the second run is used up.
     while 0 < q {
         let x = tail[q - 1];
         if above(set, p, x) {

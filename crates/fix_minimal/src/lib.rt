@@ -18,15 +18,11 @@ fn keep_models<'a>(
     requires { (count ≤ length heads.now) × (count ≤ length bodies.now) × (length stage.now ≤ length kept.old) }
     ensures { Prefix (sift (satisfies (tabulate (rule_at heads.now bodies.now) count)) stage.now) kept.new result }
 {
-    let mut n: usize = 0;
-    let mut p: usize = 0;
-    while p < stage.len() {
-        if fix_satisfied::satisfied(heads, bodies, count, stage[p]) {
-            kept[n] = stage[p];
+    let mut n = 0;
+    for w in stage {
+        if fix_satisfied::satisfied(heads, bodies, count, *w) {
+            kept[n] = *w;
             n += 1;
-            p += 1;
-        } else {
-            p += 1;
         }
     }
     n
@@ -36,21 +32,14 @@ fn keep_models<'a>(
 fn properly(v: u64, w: u64) -> bool
     ensures { result ≡ proper_in w v }
 {
-    (v & w == v) & (v != w)
+    v & w == v && v != w
 }
 
 // Whether some word of the list is a proper subset of `w`.
 fn smaller(list: &[u64], w: u64) -> bool
     ensures { result ≡ any_of (proper_in w) list.now }
 {
-    let mut q: usize = 0;
-    while q < list.len() {
-        if properly(list[q], w) {
-            return true;
-        }
-        q += 1;
-    }
-    false
+    list.iter().any(|v| properly(*v, w))
 }
 
 // Whether no word of the list is a proper subset of `w`.
@@ -65,15 +54,11 @@ fn keep_minimal(list: &[u64], kept: &mut [u64]) -> usize
     requires { (length list.now ≤ length kept.old) × Rising list.now }
     ensures { Prefix (sift (least_in list.now) list.now) kept.new result }
 {
-    let mut n: usize = 0;
-    let mut p: usize = 0;
-    while p < list.len() {
-        if minimal_among(&kept[..n], list[p]) {
-            kept[n] = list[p];
+    let mut n = 0;
+    for w in list {
+        if minimal_among(&kept[..n], *w) {
+            kept[n] = *w;
             n += 1;
-            p += 1;
-        } else {
-            p += 1;
         }
     }
     n

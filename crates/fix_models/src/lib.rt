@@ -39,7 +39,7 @@ pub fn minimal_models<'a>(
     requires { (count ≤ length heads.now) × (count ≤ length bodies.now) × (length second.old ≡ length first.old) }
     ensures { Minimals (tabulate (rule_at heads.now bodies.now) count) (length first.old) result first.new second.new }
 {
-    if first.len() == 0 {
+    if first.is_empty() {
         return 1;
     }
     first[0] = 0;

@@ -17,11 +17,9 @@ pub fn offered(wide: &[u64; 64], n: usize) -> u64
     requires { n ≤ 64 }
     ensures { result ≡ offered_by (tabulate (head_at wide.now) n) }
 {
-    let mut all: u64 = 0;
-    let mut k: usize = 0;
-    while k < n {
-        all = all | wide[k];
-        k += 1;
+    let mut all = 0;
+    for head in &wide[..n] {
+        all |= *head;
     }
     all
 }

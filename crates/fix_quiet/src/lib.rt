@@ -11,14 +11,10 @@ pub fn offered_at<'a>(heads: &'a [u64], bodies: &'a [u64], count: usize, i: u64)
     requires { (count ≤ length heads.now) × (count ≤ length bodies.now) }
     ensures { result ≡ offers i (tabulate (rule_at heads.now bodies.now) count) }
 {
-    let mut all: u64 = 0;
-    let mut k: usize = 0;
-    while k < count {
+    let mut all = 0;
+    for k in 0..count {
         if literals::subset(bodies[k], i) {
-            all = all | heads[k];
-            k += 1;
-        } else {
-            k += 1;
+            all |= heads[k];
         }
     }
     all
@@ -28,7 +24,7 @@ pub fn offered_at<'a>(heads: &'a [u64], bodies: &'a [u64], count: usize, i: u64)
 fn stirs_at(head: u64, body: u64, i: u64, full: u64) -> bool
     ensures { result ≡ stirs i full (record { head = head; body = body }) }
 {
-    (body & full == body) & !((body & i == body) & (head & i != 0))
+    body & full == body && !(body & i == body && head & i != 0)
 }
 
 // Whether some clause stirs.
@@ -36,14 +32,7 @@ fn stirred<'a>(heads: &'a [u64], bodies: &'a [u64], count: usize, i: u64, full: 
     requires { (count ≤ length heads.now) × (count ≤ length bodies.now) }
     ensures { result ≡ any_of (stirs i full) (tabulate (rule_at heads.now bodies.now) count) }
 {
-    let mut k: usize = 0;
-    while k < count {
-        if stirs_at(heads[k], bodies[k], i, full) {
-            return true;
-        }
-        k += 1;
-    }
-    false
+    (0..count).any(|k| stirs_at(heads[k], bodies[k], i, full))
 }
 
 // Whether `i`, which is offered `offer`, is quiet.

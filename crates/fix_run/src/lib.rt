@@ -13,17 +13,7 @@ ghost use Rattle.stages.specs.Run.{Iterating, Iterated};
 fn same_words(a: &[u64], b: &[u64]) -> bool
     ensures { result ≡ same a.now b.now }
 {
-    if a.len() != b.len() {
-        return false;
-    }
-    let mut p: usize = 0;
-    while p < a.len() {
-        if a[p] != b[p] {
-            return false;
-        }
-        p += 1;
-    }
-    true
+    a == b
 }
 
 // Copies the words into the first places of `to`.
@@ -31,11 +21,7 @@ fn copy(from: &[u64], to: &mut [u64])
     requires { length from.now ≤ length to.old }
     ensures { Prefix from.now to.new (length from.now) }
 {
-    let mut p: usize = 0;
-    while p < from.len() {
-        to[p] = from[p];
-        p += 1;
-    }
+    to[..from.len()].copy_from_slice(from);
 }
 
 // Forms the stage that ends the run from stage `k`, all of whose members satisfy every clause.

@@ -10,7 +10,7 @@ ghost use Rattle.minimal.specs.Minimal.{violates, satisfies};
 fn violates_at(head: u64, body: u64, w: u64) -> bool
     ensures { result ≡ violates w (record { head = head; body = body }) }
 {
-    (body & w == body) & (head & w == 0)
+    body & w == body && head & w == 0
 }
 
 // Whether `w` violates some clause.
@@ -18,14 +18,7 @@ fn violated<'a>(heads: &'a [u64], bodies: &'a [u64], count: usize, w: u64) -> bo
     requires { (count ≤ length heads.now) × (count ≤ length bodies.now) }
     ensures { result ≡ any_of (violates w) (tabulate (rule_at heads.now bodies.now) count) }
 {
-    let mut k: usize = 0;
-    while k < count {
-        if violates_at(heads[k], bodies[k], w) {
-            return true;
-        }
-        k += 1;
-    }
-    false
+    (0..count).any(|k| violates_at(heads[k], bodies[k], w))
 }
 
 // Whether `w` satisfies every clause.
@@ -41,12 +34,5 @@ pub fn is_settled<'a>(heads: &'a [u64], bodies: &'a [u64], count: usize, stage: 
     requires { (count ≤ length heads.now) × (count ≤ length bodies.now) }
     ensures { result ≡ every (satisfies (tabulate (rule_at heads.now bodies.now) count)) stage.now }
 {
-    let mut p: usize = 0;
-    while p < stage.len() {
-        if !satisfied(heads, bodies, count, stage[p]) {
-            return false;
-        }
-        p += 1;
-    }
-    true
+    stage.iter().all(|w| satisfied(heads, bodies, count, *w))
 }

@@ -11,7 +11,7 @@ ghost use Rattle.operator.specs.Operator.{rule_at, choices, bars, barred, next};
 fn bars_at(head: u64, body: u64, i: u64) -> bool
     ensures { result ≡ bars i (record { head = head; body = body }) }
 {
-    (head == 0) & (body & i == body)
+    head == 0 && body & i == body
 }
 
 // Whether `i` contains some constraint's body.
@@ -19,14 +19,7 @@ fn blocked<'a>(heads: &'a [u64], bodies: &'a [u64], count: usize, i: u64) -> boo
     requires { (count ≤ length heads.now) × (count ≤ length bodies.now) }
     ensures { result ≡ barred i (tabulate (rule_at heads.now bodies.now) count) }
 {
-    let mut k: usize = 0;
-    while k < count {
-        if bars_at(heads[k], bodies[k], i) {
-            return true;
-        }
-        k += 1;
-    }
-    false
+    (0..count).any(|k| bars_at(heads[k], bodies[k], i))
 }
 
 // Puts into the set what the member `i` gives; gives the number of members, or one more than there are places.
@@ -60,14 +53,12 @@ pub fn step<'a>(
     requires { (count ≤ length heads.now) × (count ≤ length bodies.now) × (members ≤ length stage.now) }
     ensures { Grown (length after.old) (next (tabulate (rule_at heads.now bodies.now) count) (take members stage.now)) after.new result }
 {
-    let mut n: usize = 0;
-    let mut p: usize = 0;
-    while p < members {
+    let mut n = 0;
+    for i in &stage[..members] {
         if after.len() < n {
             return n;
         }
-        n = give(heads, bodies, count, stage[p], after, n);
-        p += 1;
+        n = give(heads, bodies, count, *i, after, n);
     }
     if after.len() < n {
         return n;

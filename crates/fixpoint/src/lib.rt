@@ -4,7 +4,7 @@
 ghost use Rattle.fix_answer.specs.Answer.{Fixes};
 
 use fix_answer::FixpointAnswer;
-use program::Program;
+use program::{Program, Refusal};
 
 // The members that a word has room for.
 const MOST_MEMBERS: u32 = 64;
@@ -20,12 +20,12 @@ pub fn fixpoint(
     ensures { Fixes p day models.old first.old second.old result models.new first.new second.new }
 {
     if !validity::is_valid(p) {
-        return fix_list::refuse(program::INVALID_PROGRAM);
+        return fix_list::refuse(Refusal::InvalidProgram);
     }
     let rows = table_days::day_rows(p, day);
     let q = table_only::only(p, rows);
     if MOST_MEMBERS < vocabulary::member_count(q) {
-        return fix_list::refuse(program::TOO_MANY_MEMBERS);
+        return fix_list::refuse(Refusal::TooManyMembers);
     }
     fix_table::fix_table(q, models, first, second)
 }

@@ -3,13 +3,16 @@
 
 ghost use Rattle.std.specs.Prelude.{◌≡◌, false};
 ghost use Rattle.text.specs.Refusals.{wrong_size, unended, is_foreign, has_foreign, too_many_lines, opening_refusal};
+ghost use Rattle.program.specs.Refusals.{refused_by};
 
+use program::{Refusal, Verdict};
 use text::{NEWLINE, SPACE};
 
+#[tactic(auto, unfolding(text::specs::Refusals::wrong_size))]
 fn wrong_size(text: &[u8]) -> bool
     ensures { result ≡ wrong_size text.now }
 {
-    (text.len() == 0) | (4096 < text.len())
+    text.is_empty() || 4096 < text.len()
 }
 
 fn is_unended(text: &[u8]) -> bool
@@ -19,23 +22,17 @@ fn is_unended(text: &[u8]) -> bool
     text[text.len() - 1] != NEWLINE
 }
 
+#[tactic(auto, unfolding(text::specs::Refusals::is_foreign))]
 fn is_foreign(x: u8) -> bool
     ensures { result ≡ is_foreign x }
 {
-    !(table_names::is_plain(x) | (x == SPACE) | (x == NEWLINE))
+    !(table_names::is_plain(x) || x == SPACE || x == NEWLINE)
 }
 
 fn has_foreign(text: &[u8]) -> bool
     ensures { result ≡ has_foreign text.now }
 {
-    let mut i: usize = 0;
-    while i < text.len() {
-        if is_foreign(text[i]) {
-            return true;
-        }
-        i += 1;
-    }
-    false
+    text.iter().any(|x| is_foreign(*x))
 }
 
 fn too_many_lines(text: &[u8]) -> bool
@@ -44,21 +41,21 @@ fn too_many_lines(text: &[u8]) -> bool
     65 < lists::count_of(text, NEWLINE)
 }
 
-// The lowest of refusals 1 to 6 that applies, 0 for none.
-pub fn opening_refusal(text: &[u8]) -> u8
-    ensures { result ≡ opening_refusal text.now }
+// The lowest of refusals 1 to 6, if one applies.
+pub fn opening_refusal(text: &[u8]) -> Verdict
+    ensures { refused_by result ≡ opening_refusal text.now }
 {
     if wrong_size(text) {
-        return program::WRONG_SIZE;
+        return Err(Refusal::WrongSize);
     }
     if is_unended(text) {
-        return program::UNENDED;
+        return Err(Refusal::Unended);
     }
     if has_foreign(text) {
-        return program::FOREIGN_BYTE;
+        return Err(Refusal::ForeignByte);
     }
     if too_many_lines(text) {
-        return program::TOO_MANY_LINES;
+        return Err(Refusal::TooManyLines);
     }
     namesline::names_refusal(text)
 }

@@ -1,4 +1,5 @@
 -- Document 02's facts of holding, keeping and releasing. Assumes nothing.
+use Rattle.std.specs.Prelude.{Ok}
 use mathlib.Core.Path.{◌≡◌, refl, sym, ap, ap₂, ◌∙◌}
 use mathlib.Core.Bool.{true, false, ◌&&◌, and-true}
 use mathlib.Core.Logic.{◌↔◌, ◌⊎◌, inl, inr, ⊎_elim}
@@ -197,7 +198,7 @@ pub release_valid : (p : Program) → valid p ≡ true → valid (release_of p).
 release_valid p v = ap valid (release-gives p v) ∙ released_valid p v
 
 -- "With nothing held, these two give the table back and say so."
-pub nothing_to_clear : (p : Program) → valid p ≡ true → p.held.in_use ≡ false → (keep_of p ≡ clearing clears.NothingHeld p) × (release_of p ≡ clearing clears.NothingHeld p)
+pub nothing_to_clear : (p : Program) → valid p ≡ true → p.held.in_use ≡ false → (keep_of p ≡ clearing (Ok clears.NothingHeld) p) × (release_of p ≡ clearing (Ok clears.NothingHeld) p)
 unfolding keep_of release_of
 nothing_to_clear p v u = (clear_nothing p (kept p) v u, clear_nothing p (released p) v u)
 
@@ -207,17 +208,17 @@ module _ (p : Program) (c : Clause) (f l : ℕ) (z : hold_refusal p c f l ≡ 0)
   with = holding p (in_place (held_as p c f l))
 
   -- what keep or release gives then
-  cleared_to : (r : Program) → cleared_of with r ≡ clearing clears.Cleared r
+  cleared_to : (r : Program) → cleared_of with r ≡ clearing (Ok clears.Cleared) r
   unfolding holding
   cleared_to r =
       let t = takes p c f l z in
       clear_done with r (holding_valid p (held_as p c f l) t.accepted (record { clause = t.clause; room = t.room; days = t.days })) refl
 
-  keeps : keep_of (hold_of p c f l).program ≡ clearing clears.Cleared (kept with)
+  keeps : keep_of (hold_of p c f l).program ≡ clearing (Ok clears.Cleared) (kept with)
   unfolding keep_of
   keeps = ap (λ a. keep_of a.program) (hold_taken p c f l z) ∙ cleared_to (kept with)
 
-  releases : release_of (hold_of p c f l).program ≡ clearing clears.Cleared (released with)
+  releases : release_of (hold_of p c f l).program ≡ clearing (Ok clears.Cleared) (released with)
   unfolding release_of
   releases = ap (λ a. release_of a.program) (hold_taken p c f l z) ∙ cleared_to (released with)
 
@@ -249,9 +250,9 @@ module _ (p : Program) (c : Clause) (f l : ℕ) (z : hold_refusal p c f l ≡ 0)
   }
 
   -- "and a third lets it go": hold and then release give the table that came.
-  pub hold_then_release : release_of (hold_of p c f l).program ≡ clearing clears.Cleared p
+  pub hold_then_release : release_of (hold_of p c f l).program ≡ clearing (Ok clears.Cleared) p
   unfolding released holding
   hold_then_release =
       let t = takes p c f l z in
       let e : released with ≡ p = released_same p t.accepted t.free in
-      releases ∙ ap (clearing clears.Cleared) e
+      releases ∙ ap (clearing (Ok clears.Cleared)) e

@@ -1,4 +1,7 @@
 -- What each way to leave one of the three calls says. Assumes nothing.
+use Rattle.program.specs.declared.Refusal.{Refusal}
+use Rattle.program.specs.declared.Refusal.TheVariants.{InvalidProgram}
+use Rattle.std.specs.Prelude.{Ok, Err}
 use mathlib.Core.Path.{◌≡◌, refl, sym, ap, ◌∙◌}
 use mathlib.Core.Bool.{Bool, true, false, cond, not, ◌&&◌}
 use mathlib.Core.Logic.{⊎_elim}
@@ -12,18 +15,17 @@ use Rattle.sets.proofs.Tests.{clash, same?, via_true, via_false}
 use Rattle.sets.proofs.Lists.{Lacks, lacks_hit, lacks_none}
 use Rattle.program.specs.declared.HeldClause.{HeldClause}
 use Rattle.program.specs.declared.Program.{Program}
-use Rattle.program.specs.declared.Verdict.TheVariants.{Accepted}
 use Rattle.program.specs.Clauses.{Clause, clause_of, Row, row_at, rows, is_equal_row}
 use Rattle.program.specs.Held.{held_row, in_place, nothing_held, holding, released}
-use Rattle.program.specs.Refusals.{lowest}
+use Rattle.program.specs.Refusals.{lowest, verdict_of, refusal_of, numbered, number}
 use Rattle.program.specs.Valid.{is_clause, days_fit, valid}
-use Rattle.program.proofs.Lowest.{not_both}
+use Rattle.program.proofs.Lowest.{not_both, number_some, refusal_is}
 use Rattle.program.proofs.Validity.{valid_clauses, valid_held, held_fits, days_fit_lem}
 use Rattle.held.specs.declared.HoldStatus.TheVariants as holds
 use Rattle.held.specs.declared.ClearStatus.TheVariants as clears
 use Rattle.held.specs.declared.ClearAnswer.{ClearAnswer}
-use Rattle.held.specs.Holding.{day_held, held_as, stands, hold_refusal, answer, hold_of, of_hold}
-use Rattle.held.specs.Clearing.{kept, clear_refusal, clearing, cleared_of, of_clear}
+use Rattle.held.specs.Holding.{day_held, held_as, stands, hold_refusal, answer, hold_of}
+use Rattle.held.specs.Clearing.{kept, clear_refusal, clearing, cleared_of}
 
 -- ---- an equal row
 module _ (p : Program) (r : Row) (i : ℕ) (s : Lacks (row_at p) p.clause_count (is_equal_row r) 0 i) where
@@ -143,81 +145,77 @@ takes p c f l z =
 
 -- ---- what hold gives where its number is 0, and where not
 module _ (p : Program) (c : Clause) (f l : ℕ) where
-  pub hold_taken : hold_refusal p c f l ≡ 0 → hold_of p c f l ≡ answer (cond (stands (held_as p c f l) (rows p)) holds.Equal holds.New) (holding p (in_place (held_as p c f l)))
+  pub hold_taken : hold_refusal p c f l ≡ 0 → hold_of p c f l ≡ answer (Ok (cond (stands (held_as p c f l) (rows p)) holds.Equal holds.New)) (holding p (in_place (held_as p c f l)))
   unfolding hold_of
   hold_taken z = rw (eq-eqb (hold_refusal p c f l) 0 z)
 
-  pub hold-accepted : hold_refusal p c f l ≡ 0 → of_hold (hold_of p c f l).status ≡ Accepted
-  hold-accepted z = ap (λ a. of_hold a.status) (hold_taken z) ∙ go (stands (held_as p c f l) (rows p))
-    where
-      go : (b : Bool) → of_hold (cond b holds.Equal holds.New) ≡ Accepted
-      go true = refl
-      go false = refl
+  pub hold-accepted : hold_refusal p c f l ≡ 0 → verdict_of (hold_of p c f l).status ≡ Ok tt
+  hold-accepted z = ap (λ a. verdict_of a.status) (hold_taken z)
 
-  pub hold_refused : (hold_refusal p c f l ≡ 0 → ⊥) → hold_of p c f l ≡ answer (holds.Refused (hold_refusal p c f l)) p
+  pub hold_refused : (hold_refusal p c f l ≡ 0 → ⊥) → hold_of p c f l ≡ answer (Err (refusal_of (hold_refusal p c f l))) p
   unfolding hold_of
   hold_refused d = rw (ne_eqb (hold_refusal p c f l) 0 d)
 
   -- a clause that is taken is refused by no number
-  pub hold_zero : of_hold (hold_of p c f l).status ≡ Accepted → hold_refusal p c f l ≡ 0
-  hold_zero t = ⊎_elim (λ z. z) (λ d. not_both t (ap (λ a. of_hold a.status) (hold_refused d))) (same? (hold_refusal p c f l) 0)
+  pub hold_zero : verdict_of (hold_of p c f l).status ≡ Ok tt → hold_refusal p c f l ≡ 0
+  hold_zero t = ⊎_elim (λ z. z) (λ d. not_both t (ap (λ a. verdict_of a.status) (hold_refused d))) (same? (hold_refusal p c f l) 0)
 
 -- the same as the code comes to it
-module _ (p : Program) (c : Clause) (f l n : ℕ) (e : n ≡ hold_refusal p c f l) where
-  pub hold-few : n ≡ 0 → p.clause_count ≤ 64
-  hold-few z = (valid_clauses p (takes p c f l (sym e ∙ z)).accepted).short
+pub gives_refused : (p : Program) (c : Clause) (f l : ℕ) (r : Refusal) → number r ≡ hold_refusal p c f l → answer (Err r) p ≡ hold_of p c f l
+gives_refused p c f l r e = sym (hold_refused p c f l (λ z. number_some r (e ∙ z)) ∙ ap (λ (q : Refusal). answer (Err q) p) (refusal_is r (hold_refusal p c f l) e))
 
-  pub gives_refused : (q : Program) → q ≡ p → (n ≡ 0 → ⊥) → answer (holds.Refused n) q ≡ hold_of p c f l
-  gives_refused q g d = rw (g, e) (sym (hold_refused p c f l (λ z. d (e ∙ z))))
+module _ (p : Program) (c : Clause) (f l : ℕ) (z : 0 ≡ hold_refusal p c f l) where
+  pub hold-few : p.clause_count ≤ 64
+  hold-few = (valid_clauses p (takes p c f l (sym z)).accepted).short
 
   module _ (h : HeldClause) (a : h ≡ in_place (held_as p c f l)) (q : Program) (g : q ≡ holding p h) (s : Bool) (t : s ≡ stands (held_row h) (rows p)) where
-    gives_taken : (b : Bool) → n ≡ 0 → s ≡ b → answer (cond b holds.Equal holds.New) q ≡ hold_of p c f l
-    gives_taken b z u = rw (g, ← u, t, a) (sym (hold_taken p c f l (sym e ∙ z)))
+    gives_taken : (b : Bool) → s ≡ b → answer (Ok (cond b holds.Equal holds.New)) q ≡ hold_of p c f l
+    gives_taken b u = rw (g, ← u, t, a) (sym (hold_taken p c f l (sym z)))
 
-    pub gives-equal : n ≡ 0 → s ≡ true → answer holds.Equal q ≡ hold_of p c f l
-    gives-equal z u = gives_taken true z u
+    pub gives-equal : s ≡ true → answer (Ok holds.Equal) q ≡ hold_of p c f l
+    gives-equal u = gives_taken true u
 
-    pub gives_new : n ≡ 0 → s ≡ false → answer holds.New q ≡ hold_of p c f l
-    gives_new z u = gives_taken false z u
+    pub gives_new : s ≡ false → answer (Ok holds.New) q ≡ hold_of p c f l
+    gives_new u = gives_taken false u
 
 -- ---- the answers of keep and release
 pub keep_room : (p : Program) → valid p ≡ true → p.held.in_use ≡ true → p.clause_count < 64
 keep_room p v u = (held_fits p.dated p.held p.clause_count p.atom_count (valid_held p v) u).room
 
 module _ (p q : Program) where
-  clear_taken : clear_refusal p ≡ 0 → cleared_of p q ≡ cond p.held.in_use (clearing clears.Cleared q) (clearing clears.NothingHeld p)
+  clear_taken : clear_refusal p ≡ 0 → cleared_of p q ≡ cond p.held.in_use (clearing (Ok clears.Cleared) q) (clearing (Ok clears.NothingHeld) p)
   unfolding cleared_of
   clear_taken z = rw (eq-eqb (clear_refusal p) 0 z)
 
-  pub clear_accepted : clear_refusal p ≡ 0 → of_clear (cleared_of p q).status ≡ Accepted
-  clear_accepted z = ap (λ a. of_clear a.status) (clear_taken z) ∙ go p.held.in_use
+  pub clear_accepted : clear_refusal p ≡ 0 → verdict_of (cleared_of p q).status ≡ Ok tt
+  clear_accepted z = ap (λ a. verdict_of a.status) (clear_taken z) ∙ go p.held.in_use
     where
-      go : (b : Bool) → of_clear (cond b (clearing clears.Cleared q) (clearing clears.NothingHeld p)).status ≡ Accepted
+      go : (b : Bool) → verdict_of (cond b (clearing (Ok clears.Cleared) q) (clearing (Ok clears.NothingHeld) p)).status ≡ Ok tt
       go true = refl
       go false = refl
 
-  pub clear_refused : (clear_refusal p ≡ 0 → ⊥) → cleared_of p q ≡ clearing (clears.Refused (clear_refusal p)) p
+  pub clear_refused : (clear_refusal p ≡ 0 → ⊥) → cleared_of p q ≡ clearing (Err (refusal_of (clear_refusal p))) p
   unfolding cleared_of
   clear_refused d = rw (ne_eqb (clear_refusal p) 0 d)
 
-  pub clear_done : valid p ≡ true → p.held.in_use ≡ true → cleared_of p q ≡ clearing clears.Cleared q
+  pub clear_done : valid p ≡ true → p.held.in_use ≡ true → cleared_of p q ≡ clearing (Ok clears.Cleared) q
   unfolding clear_refusal lowest
   clear_done v u = clear_taken (rw v) ∙ rw u
 
-  pub clear_nothing : valid p ≡ true → p.held.in_use ≡ false → cleared_of p q ≡ clearing clears.NothingHeld p
+  pub clear_nothing : valid p ≡ true → p.held.in_use ≡ false → cleared_of p q ≡ clearing (Ok clears.NothingHeld) p
   unfolding clear_refusal lowest
   clear_nothing v u = clear_taken (rw v) ∙ rw u
 
 -- the same as the code of both comes to it
 module _ (p q : Program) (r : ClearAnswer) where
-  pub clears_nine : valid p ≡ false → r ≡ clearing (clears.Refused 9) p → r ≡ cleared_of p q
-  unfolding cleared_of clear_refusal lowest
+  pub clears_nine : valid p ≡ false → r ≡ clearing (Err InvalidProgram) p → r ≡ cleared_of p q
+  unfolding cleared_of clear_refusal lowest numbered
   clears_nine v e = e ∙ rw v
 
-  pub clears_held : (s : Program) → valid p ≡ true → p.held.in_use ≡ true → s ≡ q → r ≡ clearing clears.Cleared s → r ≡ cleared_of p q
-  clears_held s v u f e = e ∙ ap (clearing clears.Cleared) f ∙ sym (clear_done p q v u)
+  pub clears_held : (s : Program) → valid p ≡ true → p.held.in_use ≡ true → s ≡ q → r ≡ clearing (Ok clears.Cleared) s → r ≡ cleared_of p q
+  clears_held s v u f e = e ∙ ap (clearing (Ok clears.Cleared)) f ∙ sym (clear_done p q v u)
 
-  pub clears_nothing : valid p ≡ true → p.held.in_use ≡ false → r ≡ clearing clears.NothingHeld p → r ≡ cleared_of p q
+  pub clears_nothing : valid p ≡ true → p.held.in_use ≡ false → r ≡ clearing (Ok clears.NothingHeld) p → r ≡ cleared_of p q
   clears_nothing v u e = e ∙ sym (clear_nothing p q v u)
 
 pub released_is : (p s : Program) (h : HeldClause) → h ≡ nothing_held → s ≡ holding p h → s ≡ released p

@@ -1,15 +1,14 @@
 -- Document 02, U5: "One call holds a clause in a separate place of the table and says whether an equal clause stands already."; U13 gives it days. Assumes nothing.
-use Rattle.std.specs.Prelude.{Bool, cond, not, ◌&&◌, List, [], ◌∷◌, ℕ, eqb, ltb}
+use Rattle.std.specs.Prelude.{Bool, cond, not, ◌&&◌, List, [], ◌∷◌, ℕ, eqb, ltb, Result, Ok, Err}
 use Rattle.sets.specs.Lists.{any_of}
 use Rattle.program.specs.declared.Program.{Program}
-use Rattle.program.specs.declared.Verdict.{Verdict}
-use Rattle.program.specs.declared.Verdict.TheVariants as verdict
+use Rattle.program.specs.declared.Refusal.{Refusal}
 use Rattle.program.specs.Clauses.{Clause, Row, row_of, is_equal_row, rows}
 use Rattle.program.specs.Held.{in_place, holding}
-use Rattle.program.specs.Refusals.{lowest}
+use Rattle.program.specs.Refusals.{lowest, refusal_of}
 use Rattle.program.specs.Valid.{is_clause, valid}
 use Rattle.held.specs.declared.HoldStatus.{HoldStatus}
-use Rattle.held.specs.declared.HoldStatus.TheVariants.{New, Equal, Refused}
+use Rattle.held.specs.declared.HoldStatus.TheVariants.{New, Equal}
 use Rattle.held.specs.declared.HoldAnswer.{HoldAnswer}
 
 -- document 02, U13: "On an undated table the days given are passed over and held as 0."
@@ -33,17 +32,11 @@ hold_refusals p c f l =
 unfoldable pub hold_refusal : Program → Clause → ℕ → ℕ → ℕ
 hold_refusal p c f l = lowest (hold_refusals p c f l)
 
-abbrev pub answer : HoldStatus → Program → HoldAnswer
+abbrev pub answer : Result HoldStatus Refusal → Program → HoldAnswer
 answer s p = record { status = s; program = p }
 
 -- the answer for every table, every clause and any two days; "A refused call gives the table back as it came."
 unfoldable pub hold_of : Program → Clause → ℕ → ℕ → HoldAnswer
 hold_of p c f l = cond (eqb (hold_refusal p c f l) 0)
-    (answer (cond (stands (held_as p c f l) (rows p)) Equal New) (holding p (in_place (held_as p c f l))))
-    (answer (Refused (hold_refusal p c f l)) p)
-
--- the verdict of each answer
-abbrev pub of_hold : HoldStatus → Verdict
-of_hold New = verdict.Accepted
-of_hold Equal = verdict.Accepted
-of_hold (Refused n) = verdict.Refused n
+    (answer (Ok (cond (stands (held_as p c f l) (rows p)) Equal New)) (holding p (in_place (held_as p c f l))))
+    (answer (Err (refusal_of (hold_refusal p c f l))) p)

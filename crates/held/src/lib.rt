@@ -1,19 +1,18 @@
 // Document 02, U5 and U13: what hold, keep and release answer: definitions and laws, and no function.
 #![tactic(auto)]
 
-use program::Program;
+use program::{Program, Refusal};
 
 // What holding a clause finds: whether an equal one stands already.
 #[derive(Clone, Copy)]
 pub enum HoldStatus {
     New,
     Equal,
-    Refused(u8),
 }
 
 #[derive(Clone, Copy)]
 pub struct HoldAnswer {
-    pub status: HoldStatus,
+    pub status: Result<HoldStatus, Refusal>,
     pub program: Program,
 }
 
@@ -22,11 +21,10 @@ pub struct HoldAnswer {
 pub enum ClearStatus {
     Cleared,
     NothingHeld,
-    Refused(u8),
 }
 
 #[derive(Clone, Copy)]
 pub struct ClearAnswer {
-    pub status: ClearStatus,
+    pub status: Result<ClearStatus, Refusal>,
     pub program: Program,
 }

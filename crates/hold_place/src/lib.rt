@@ -13,11 +13,11 @@ fn is_equal(p: Program, k: usize, held: HeldClause) -> bool
     requires { k < 64 }
     ensures { result ≡ is_equal_row (held_row held) (row_at p k) }
 {
-    (held.head == p.heads[k])
-        & (held.body == p.bodies[k])
-        & (held.naf == p.nafs[k])
-        & (held.first == p.firsts[k])
-        & (held.last == p.lasts[k])
+    held.head == p.heads[k]
+        && held.body == p.bodies[k]
+        && held.naf == p.nafs[k]
+        && held.first == p.firsts[k]
+        && held.last == p.lasts[k]
 }
 
 // Whether some row has this clause, and these days.
@@ -25,13 +25,10 @@ pub fn equal_stands(p: Program, held: HeldClause) -> bool
     requires { p.clause_count ≤ 64 }
     ensures { result ≡ stands (held_row held) (rows p) }
 {
-    let count = p.clause_count;
-    let mut k: usize = 0;
-    while k < count {
+    for k in 0..p.clause_count {
         if is_equal(p, k, held) {
             return true;
         }
-        k += 1;
     }
     false
 }
@@ -49,9 +46,9 @@ pub fn held_as(p: Program, head: u32, body: u32, naf: u32, first: u16, last: u16
 {
     HeldClause {
         in_use: true,
-        head: head,
-        body: body,
-        naf: naf,
+        head,
+        body,
+        naf,
         first: day_held(p, first),
         last: day_held(p, last),
     }

@@ -1,4 +1,6 @@
 -- What `hold` and `keep` print: that it is the text of the call's answer, and that the table that is kept is ready to be written. Assumes nothing.
+use Rattle.held.specs.declared.HoldStatus.{HoldStatus}
+use Rattle.std.specs.Prelude.{Ok, Err}
 use mathlib.Core.Path.{◌≡◌, sym, ap, ◌∙◌}
 use mathlib.Core.List.{List, [], ◌∷◌, ◌++◌, map, flat_map, append-nil, append_assoc}
 use Prim.Native.Nat.{ℕ}
@@ -10,7 +12,8 @@ use Rattle.program.specs.Valid.{valid, Sized}
 use Rattle.text.specs.Lines.{line_of, names_line, values_line}
 use Rattle.text.specs.Render.{book_items, book_text, row_numbers, numbers_of, render}
 use Rattle.wording.specs.Printed.{refused_line}
-use Rattle.held.specs.declared.HoldStatus.TheVariants.{New, Equal, Refused}
+use Rattle.held.specs.declared.HoldStatus.TheVariants.{New, Equal}
+use Rattle.program.specs.declared.Refusal.{Refusal}
 use Rattle.held.specs.declared.HoldAnswer.{HoldAnswer}
 use Rattle.held.specs.declared.ClearAnswer.{ClearAnswer}
 use Rattle.held.specs.Holding.{held_as, hold_refusal, hold_of}
@@ -19,36 +22,37 @@ use Rattle.held.proofs.Laws.{hold-accepted}
 use Rattle.held.proofs.Facts as facts
 use Rattle.printing.specs.Ready.{Ready}
 use Rattle.printing.specs.Texts.{unless_refused}
-use Rattle.holding.specs.Texts.{new_word, equal_word, held_line, hold_text, keep_text}
+use Rattle.holding.specs.Texts.{new_word, equal_word, status_line, held_line, hold_text, keep_text}
+
+module _ (s : HoldStatus) (xs : List ℕ) (r : ℕ) (ys : List ℕ) where
+  pub says_new : s ≡ New → Wrote (new_word ++ (10 ∷ [])) xs r ys → Wrote (status_line s) xs r ys
+  unfolding status_line line_of join led
+  says_new t h = rw t h
+
+  pub says-equal : s ≡ Equal → Wrote (equal_word ++ (10 ∷ [])) xs r ys → Wrote (status_line s) xs r ys
+  unfolding status_line line_of join led
+  says-equal t h = rw t h
 
 module _ (p : Program) (c : Clause) (f l : ℕ) (a : HoldAnswer) (e : a ≡ hold_of p c f l) (xs : List ℕ) where
   pub held-ready : Ready p xs → Ready a.program xs
   held-ready q = record { accepted = ap (λ (x : HoldAnswer). valid x.program) e ∙ facts.hold_valid p c f l q.accepted; room = q.room }
 
   module _ (r : ℕ) (ys : List ℕ) where
-    pub hold_new : a.status ≡ New → Wrote (new_word ++ (10 ∷ [])) xs r ys → Wrote (hold_text c f l p) xs r ys
-    unfolding hold_text held_line line_of join led
-    hold_new t h = rw (← e, t) h
-
-    pub hold-equal : a.status ≡ Equal → Wrote (equal_word ++ (10 ∷ [])) xs r ys → Wrote (hold_text c f l p) xs r ys
-    unfolding hold_text held_line line_of join led
-    hold-equal t h = rw (← e, t) h
-
-    pub hold_refused : (n : ℕ) → a.status ≡ Refused n → Wrote (refused_line n) xs r ys → Wrote (hold_text c f l p) xs r ys
+    pub hold_taken : (s : HoldStatus) → a.status ≡ Ok s → Wrote (status_line s) xs r ys → Wrote (hold_text c f l p) xs r ys
     unfolding hold_text held_line
-    hold_refused n t h = rw (← e, t) h
+    hold_taken s t h = rw (← e, t) h
 
-    pub keep_new : a.status ≡ New → Wrote (render (keep_of a.program).program) xs r ys → Wrote (keep_text c f l p) xs r ys
-    unfolding keep_text unless_refused
-    keep_new t h = rw (← e, t) h
+    pub hold_refused : (q : Refusal) → a.status ≡ Err q → Wrote (refused_line q) xs r ys → Wrote (hold_text c f l p) xs r ys
+    unfolding hold_text held_line
+    hold_refused q t h = rw (← e, t) h
 
-    pub keep-equal : a.status ≡ Equal → Wrote (render (keep_of a.program).program) xs r ys → Wrote (keep_text c f l p) xs r ys
+    pub keep_taken : (s : HoldStatus) → a.status ≡ Ok s → Wrote (render (keep_of a.program).program) xs r ys → Wrote (keep_text c f l p) xs r ys
     unfolding keep_text unless_refused
-    keep-equal t h = rw (← e, t) h
+    keep_taken s t h = rw (← e, t) h
 
-    pub keep_refused : (n : ℕ) → a.status ≡ Refused n → Wrote (refused_line n) xs r ys → Wrote (keep_text c f l p) xs r ys
+    pub keep_refused : (q : Refusal) → a.status ≡ Err q → Wrote (refused_line q) xs r ys → Wrote (keep_text c f l p) xs r ys
     unfolding keep_text unless_refused
-    keep_refused n t h = rw (← e, t) h
+    keep_refused q t h = rw (← e, t) h
 
 module _ (p : Program) (a : ClearAnswer) (e : a ≡ keep_of p) (xs : List ℕ) where
   pub kept-ready : Sized p → Ready p xs → Ready a.program xs

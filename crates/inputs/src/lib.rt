@@ -19,6 +19,7 @@ pub fn read_full<R: Read>(reader: &mut R, bytes: &mut [u8]) -> io::Result<usize>
     ensures len { length bytes.new ≡ length bytes.old }
 {
     let mut done: usize = 0;
+    // A `while`: a read may give fewer bytes than there is room for.
     while done < bytes.len() {
         let n = reader.read(&mut bytes[done..])?;
         if n == 0 {

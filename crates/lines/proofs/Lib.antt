@@ -3,3 +3,4 @@ pub mod Laying
 pub mod Going
 pub mod Names
 pub mod Bounds
+pub mod Made

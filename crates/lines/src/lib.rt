@@ -16,10 +16,7 @@ use text::{NEWLINE, SPACE};
 fn separator_of(i: usize, n: usize) -> u8
     ensures { result ≡ separator i n }
 {
-    if i < n {
-        return SPACE;
-    }
-    NEWLINE
+    if i < n { SPACE } else { NEWLINE }
 }
 
 // The length of the name in place `i`.
@@ -28,9 +25,7 @@ fn name_length(names: &[u8; program::ALL_NAME_BYTES], i: usize) -> usize
     ensures { Spans (name_at names.now i) 8 result }
 {
     let a = NAME_BYTES * i;
-    let e = a + NAME_BYTES;
-    let all = &names[..];
-    lists::end_of(&all[a..e], 0, 0)
+    lists::end_of(&names[a..a + NAME_BYTES], 0, 0)
 }
 
 // The name in place `i` at the front of `out`.
@@ -40,9 +35,7 @@ fn put_name(out: &mut [u8], names: &[u8; program::ALL_NAME_BYTES], i: usize) -> 
 {
     let k = name_length(names, i);
     let a = NAME_BYTES * i;
-    let e = a + k;
-    let all = &names[..];
-    lists::put_bytes(out, &all[a..e])
+    lists::put_bytes(out, &names[a..a + k])
 }
 
 // The name in place `i`, the item `i` of `n` on its line, and what stands behind it.
@@ -71,12 +64,9 @@ pub fn put_names_line(out: &mut [u8], names: &[u8; program::ALL_NAME_BYTES], n: 
     requires { Room n 12 (names_line (tabulate (name_at names.now) n)) out.old }
     ensures { Wrote (names_line (tabulate (name_at names.now) n)) out.old result out.new }
 {
-    let mut at: usize = 0;
-    let mut i: usize = 0;
-    while i < n {
-        let k = put_name_item(&mut out[at..], names, i, n);
-        at = at + k;
-        i += 1;
+    let mut at = 0;
+    for i in 0..n {
+        at += put_name_item(&mut out[at..], names, i, n);
     }
     at
 }
@@ -86,12 +76,9 @@ pub fn put_values_line(out: &mut [u8], values: &[u64], n: usize) -> usize
     requires { Room n (length values.now) (values_line (take n values.now)) out.old }
     ensures { Wrote (values_line (take n values.now)) out.old result out.new }
 {
-    let mut at: usize = 0;
-    let mut i: usize = 0;
-    while i < n {
-        let k = put_number_item(&mut out[at..], values, i, n);
-        at = at + k;
-        i += 1;
+    let mut at = 0;
+    for i in 0..n {
+        at += put_number_item(&mut out[at..], values, i, n);
     }
     at
 }

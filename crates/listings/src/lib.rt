@@ -10,17 +10,13 @@ ghost use Rattle.text.specs.Lines.{names_line, values_line};
 ghost use Rattle.lines.specs.Laying.{Room};
 ghost use Rattle.listings.specs.Listing.{model_lines};
 
+use std::array;
+
 // The values of a word.
 fn word_values(w: u32) -> [u64; program::MOST_ATOMS]
     ensures { result ≡ tabulate (value_in w) 12 }
 {
-    let mut out = [0u64; program::MOST_ATOMS];
-    let mut i: usize = 0;
-    while i < program::MOST_ATOMS {
-        out[i] = table_fields::value_in(w, i) as u64;
-        i += 1;
-    }
-    out
+    array::from_fn(|i| u64::from(table_fields::value_in(w, i)))
 }
 
 // The line of a model at the front of `out`.
@@ -28,8 +24,7 @@ fn put_model_line(out: &mut [u8], w: u32, n: usize) -> usize
     requires { Room n 12 (values_line (word_values n w)) out.old }
     ensures { Wrote (values_line (word_values n w)) out.old result out.new }
 {
-    let values = word_values(w);
-    lines::put_values_line(out, &values, n)
+    lines::put_values_line(out, &word_values(w), n)
 }
 
 // The lines of the first `m` words, each placed behind the last.
@@ -37,12 +32,9 @@ fn put_model_lines(out: &mut [u8], models: &[u32], m: usize, n: usize) -> usize
     requires { (m ≤ length models.now) × Room n 12 (model_lines n (take m models.now)) out.old }
     ensures { Wrote (model_lines n (take m models.now)) out.old result out.new }
 {
-    let mut at: usize = 0;
-    let mut k: usize = 0;
-    while k < m {
-        let l = put_model_line(&mut out[at..], models[k], n);
-        at = at + l;
-        k += 1;
+    let mut at = 0;
+    for k in 0..m {
+        at += put_model_line(&mut out[at..], models[k], n);
     }
     at
 }

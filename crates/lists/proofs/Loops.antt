@@ -1,20 +1,24 @@
 -- Loops over bytes, pieces and lines: what each keeps, and how it goes on and ends. Assumes nothing.
-use mathlib.Core.Path.{◌≡◌, refl, sym, ap, ap₂, ◌∙◌}
+use mathlib.Core.Path.{◌≡◌, refl, sym, ap, ap₂, ◌∙◌, subst}
 use mathlib.Core.Bool.{Bool, true, false, cond, ◌&&◌, ◌||◌, false≢true}
 use mathlib.Core.List.{List, [], ◌∷◌}
 use Prim.Native.Nat.{ℕ, suc, ◌+◌, ◌≤◌, ◌<◌, max}
-use native.Mathlib.Nat.{zero-add, add-zero}
+use native.Mathlib.Nat.{add-zero}
 use native.Mathlib.Numerals.{add-one}
 use native.Mathlib.Omega.{arith}
 use borrow.Author.Rules.{rules}
 use lib.Dec.{eqb}
 use lib.ListN.{length, get_or, drop, drop_of_length-le}
 use lib.Seq.{drop-cons}
+use lib.Pointwise.{pointwise}
+use Rattle.std.specs.List.{count_by}
+use Rattle.std.proofs.lemmas.List.Sums.{count_by-le-length}
+use Rattle.std.proofs.lemmas.List.Recursion.{is_count_by}
 use borrow.Author.Tests.{eqb-true, eq-eqb, ne_eqb}
 use Rattle.sets.specs.Lists.{every, any_of, onward, tabulate}
 use Rattle.sets.proofs.Tests.{both_true, via, via_true, via_false}
 use Rattle.sets.proofs.Lists.{onward_start, onward_step, onward_done, kept_start, kept_not, kept_more, kept_done, lacks_start, lacks_not, lacks_more, lacks_done}
-use Rattle.lists.specs.Bytes.{pieces, left, ended, index, end_of, count, one_if, same, distinct, EndsAt, CountOf}
+use Rattle.lists.specs.Bytes.{pieces, left, ended, index, end_of, count, same, distinct, EndsAt, CountOf}
 use Rattle.lists.proofs.Pieces.{part, left_start, left_step, left_done, line_step, line_done, end_ge}
 
 -- ---- loops over the pieces
@@ -101,32 +105,11 @@ module _ (xs : List ℕ) where
     unfolding end_of index
     done_is at i s h = sym (add-zero i) ∙ sym (ap (λ (l : List ℕ). i + index c l) (at_end i h)) ∙ s.rest
 
-    pub sought_done : (at i : ℕ) → Sought at i → length xs ≤ i → EndsAt xs c at i
+    sought_done : (at i : ℕ) → Sought at i → length xs ≤ i → EndsAt xs c at i
     sought_done at i s h = ends at i s.within (done_is at i s h)
 
-    -- n times below i
-    pub record Counted (i n : ℕ) : Type 0 where
-      pub within : i ≤ length xs
-      pub small : n ≤ i
-      pub rest : n + count c (drop i xs) ≡ count c xs
-
-    pub count_none : Counted 0 0
-    count_none = record { within = omega arith; small = omega arith; rest = zero-add _ }
-
-    pub count_more : (i n k : ℕ) → Counted i n → i < length xs → k ≡ one_if (eqb (get_or xs i 0) c) → Counted (i + 1) (n + k)
-    unfolding count
-    count_more i n k s h e = go (eqb (get_or xs i 0) c) e (ap (count c) (ahead i h))
-      where
-        go : (b : Bool) → k ≡ one_if b → count c (drop i xs) ≡ cond b (suc (count c (drop (i + 1) xs))) (count c (drop (i + 1) xs)) → Counted (i + 1) (n + k)
-        go true e f = record { within = omega arith; small = omega (arith, s.small); rest = omega (arith, s.rest) }
-        go false e f = record { within = omega arith; small = omega (arith, s.small); rest = omega (arith, s.rest) }
-
-    pub count_done : (i n : ℕ) → Counted i n → length xs ≤ i → CountOf c xs n
-    unfolding count
-    count_done i n s h = record {
-      is = sym (add-zero n) ∙ sym (ap (λ (l : List ℕ). n + count c l) (at_end i h)) ∙ s.rest;
-      small = omega (arith, s.within, s.small);
-    }
+    pub sought_end : (at i e : ℕ) → Sought at i → at ≤ i → length xs ≤ i → e ≡ max at (length xs) → EndsAt xs c at e
+    sought_end at i e s a h q = let k : i ≡ e = omega (arith, s.within) in subst (λ (j : ℕ). EndsAt xs c at j) k (sought_done at i s h)
 
   module _ (p : ℕ → Bool) where
     -- none of the bytes below i passes
@@ -199,17 +182,22 @@ module _ (f : ℕ → List ℕ) (n : ℕ) where
   unfolding distinct
   single_done i s h = sym (ap distinct (onward_done f n i h)) ∙ s.rest
 
--- ---- two lists
-pub same_long : (xs ys : List ℕ) → (length xs ≡ length ys → ⊥) → false ≡ same xs ys
+-- ---- what the library answers
+is_count : (c : ℕ) (xs : List ℕ) → count c xs ≡ count_by (λ x. eqb x c) xs
+unfolding count
+is_count c = is_count_by (count c) (λ x. eqb x c) refl (λ x xs. ap (λ (n : ℕ). cond (eqb x c) n (count c xs)) (omega arith))
+
+pub count_of_passing : (c : ℕ) (xs : List ℕ) (n : ℕ) → n ≡ count_by (λ x. eqb x c) xs → CountOf c xs n
+count_of_passing c xs n e = record { is = e ∙ sym (is_count c xs); small = rw e (count_by-le-length _ xs) }
+
+pub is_same : (xs ys : List ℕ) → pointwise eqb xs ys ≡ same xs ys
 unfolding same
-same_long [] [] h = absurd (h refl)
-same_long [] (y ∷ ys) h = refl
-same_long (x ∷ xs) [] h = refl
-same_long (x ∷ xs) (y ∷ ys) h = go (eqb x y) (same_long xs ys (λ e. h (ap suc e)))
-  where
-    go : (b : Bool) → false ≡ same xs ys → false ≡ b && same xs ys
-    go true r = r
-    go false r = refl
+is_same [] [] = refl
+is_same [] (y ∷ ys) = refl
+is_same (x ∷ xs) [] = refl
+is_same (x ∷ xs) (y ∷ ys) = ap (λ (b : Bool). eqb x y && b) (is_same xs ys)
+
+-- ---- two lists
 
 pub same_true : (xs ys : List ℕ) → same xs ys ≡ true → xs ≡ ys
 unfolding same
@@ -222,30 +210,6 @@ pub same_self : (xs : List ℕ) → same xs xs ≡ true
 unfolding same
 same_self [] = refl
 same_self (x ∷ xs) = rw (eq-eqb x x refl, same_self xs)
-
-module _ (xs ys : List ℕ) where
-  -- alike below i
-  pub record Alike (i : ℕ) : Type 0 where
-    pub long : length xs ≡ length ys
-    pub within : i ≤ length xs
-    pub rest : same (drop i xs) (drop i ys) ≡ same xs ys
-
-  pub alike_start : length xs ≡ length ys → Alike 0
-  alike_start h = record { long = h; within = omega arith; rest = refl }
-
-  alike_here : (i : ℕ) → Alike i → i < length xs → same (drop i xs) (drop i ys) ≡ (eqb (get_or xs i 0) (get_or ys i 0) && same (drop (i + 1) xs) (drop (i + 1) ys))
-  unfolding same
-  alike_here i s h = ap₂ same (ahead xs i h) (ahead ys i (omega (arith, s.long)))
-
-  pub alike_not : (i : ℕ) → Alike i → i < length xs → (get_or xs i 0 ≡ get_or ys i 0 → ⊥) → false ≡ same xs ys
-  alike_not i s h e = rw (ne_eqb _ _ e) at (sym (alike_here i s h)) ∙ s.rest
-
-  pub alike_more : (i : ℕ) → Alike i → i < length xs → get_or xs i 0 ≡ get_or ys i 0 → Alike (i + 1)
-  alike_more i s h e = record { long = s.long; within = omega arith; rest = rw (eq-eqb _ _ e) at (sym (alike_here i s h)) ∙ s.rest }
-
-  pub alike_done : (i : ℕ) → Alike i → length xs ≤ i → true ≡ same xs ys
-  unfolding same
-  alike_done i s h = sym (ap₂ same (at_end xs i h) (at_end ys i (omega (arith, s.long)))) ∙ s.rest
 
 -- what `search` is handed at the needs of such loops
 pub ruleset loops = (
@@ -260,10 +224,7 @@ pub ruleset loops = (
   sought,
   sought_hit,
   sought_miss,
-  sought_done,
-  count_none,
-  count_more,
-  count_done,
+  sought_end,
   scan_start,
   scan_hit,
   scan_miss,
@@ -286,11 +247,6 @@ pub ruleset loops = (
   single_not,
   single_more,
   single_done,
-  same_long,
-  alike_start,
-  alike_not,
-  alike_more,
-  alike_done,
   via,
   via_true,
   via_false,

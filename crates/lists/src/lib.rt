@@ -8,50 +8,27 @@ ghost use Rattle.lists.specs.Bytes.{EndsAt, CountOf, Wrote, same, one_if};
 pub fn end_of(s: &[u8], at: usize, c: u8) -> usize
     ensures { EndsAt s.now c at result }
 {
-    let mut i = at;
-    while i < s.len() {
+    for i in at..s.len() {
         if s[i] == c {
             return i;
         }
-        i += 1;
     }
-    i
+    at.max(s.len())
 }
 
 // How often `c` stands in `s`.
 pub fn count_of(s: &[u8], c: u8) -> usize
     ensures { CountOf c s.now result }
 {
-    let mut n: usize = 0;
-    let mut i: usize = 0;
-    while i < s.len() {
-        n += one_if(s[i] == c);
-        i += 1;
-    }
-    n
-}
-
-fn one_if(b: bool) -> usize
-    ensures { (result ≡ one_if b) × (result ≤ 1) }
-{
-    if b { 1 } else { 0 }
+    s.iter().filter(|x| **x == c).count()
 }
 
 // Whether two slices hold the same bytes.
+#[tactic(auto, using(crate::proofs::Loops::is_same))]
 pub fn same_bytes(a: &[u8], b: &[u8]) -> bool
     ensures { result ≡ same a.now b.now }
 {
-    if a.len() != b.len() {
-        return false;
-    }
-    let mut i: usize = 0;
-    while i < a.len() {
-        if a[i] != b[i] {
-            return false;
-        }
-        i += 1;
-    }
-    true
+    a == b
 }
 
 // The bytes of `s` at the front of `out`, which has room for them; their number.
@@ -59,17 +36,13 @@ pub fn put_bytes(out: &mut [u8], s: &[u8]) -> usize
     requires { length s.now ≤ length out.old }
     ensures { Wrote s.now out.old result out.new }
 {
-    let mut i: usize = 0;
-    while i < s.len() {
-        out[i] = s[i];
-        i += 1;
-    }
-    i
+    out[..s.len()].copy_from_slice(s);
+    s.len()
 }
 
 // The smaller of the two: what is asked for, up to a limit.
 pub fn least(a: usize, b: usize) -> usize
     ensures { result ≡ min a b }
 {
-    if a < b { a } else { b }
+    a.min(b)
 }

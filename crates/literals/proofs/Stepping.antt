@@ -14,6 +14,7 @@ use Rattle.sets.proofs.Lists.{some_in, in_some, in_up_from, up_from_in}
 use Rattle.sets.proofs.Digits.{bit-small}
 use Rattle.sets.proofs.Branches.{in_both}
 use Rattle.literals.specs.Literals.{members, Lowest}
+use Rattle.literals.specs.Members.{Taken}
 use Rattle.literals.proofs.Literals.{low_less, literals_low, literals_none, lit_in, lit_out, bits_rising}
 
 -- the one at hand is a member
@@ -45,6 +46,22 @@ module _ (p : ℕ → Bool) (s : ℕ) where
     pub step_done : left ≡ 0 → false ≡ any_of p (members s)
     unfolding any_of
     step_done z = sym (ap (λ (x : ℕ). any_of p (members x)) z ∙ ap (any_of p) literals_none) ∙ u.rest
+
+-- ---- a loop over the iterator
+module _ (p : ℕ → Bool) (s : ℕ) where
+  pub turn_start : (left : ℕ) → left ≡ s → Stepping p s left
+  turn_start left e = rw e (step_start p s)
+
+  module _ (left : ℕ) (u : Stepping p s left) where
+    module _ {x t : ℕ} (k : Taken left x t) {r : Bool} (q : r ≡ p x) where
+      pub turn_hit : r ≡ true → true ≡ any_of p (members s)
+      turn_hit h = step_hit p s left u k.some k.lowest q h
+
+      pub turn_next : r ≡ false → Stepping p s t
+      turn_next h = rw k.others (step_next p s left u k.some k.lowest q h)
+
+    pub turn_done : left ≡ 0 → false ≡ any_of p (members s)
+    turn_done z = step_done p s left u z
 
 -- the others are above it
 pub step_others : (left : ℕ) → (left ≡ 0 → ⊥) → {t : ℕ} → Lowest left t → (i : ℕ) → T (bit (bit_and left (left - 1)) i) → t < i

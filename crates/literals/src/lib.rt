@@ -4,7 +4,9 @@
 ghost use Rattle.std.specs.Prelude.{◌≡◌, ◌<◌};
 ghost use Rattle.std.specs.Int.Count.{count_trailing_zeros};
 ghost use Rattle.sets.specs.Words.{inside, put};
+ghost use Rattle.std.specs.Iterator.{at_most};
 ghost use Rattle.literals.specs.Literals.{Lowest};
+ghost use Rattle.literals.specs.Members.{StepsDown};
 
 // Whether `a` is a subset of `b`.
 pub fn subset(a: u64, b: u64) -> bool
@@ -34,4 +36,35 @@ pub fn lowest_place(s: u64) -> usize
     ensures { Lowest s result }
 {
     lowest(s) as usize
+}
+
+// ---- the members of a word, lowest first
+// Those that are still to come.
+#[derive(Clone, Copy)]
+pub struct MembersLeft {
+    rest: u64,
+}
+
+// The members of `s`.
+pub fn members(s: u64) -> MembersLeft
+    ensures { result.rest ≡ s }
+{
+    MembersLeft { rest: s }
+}
+
+impl Iterator for MembersLeft {
+    type Item = u32;
+
+    ghost next_gives = { StepsDown };
+
+    ghost remaining = { λ m. at_most m.rest };
+
+    fn next(&mut self) -> Option<u32> {
+        if self.rest == 0 {
+            return None;
+        }
+        let t = lowest(self.rest);
+        self.rest &= self.rest - 1;
+        Some(t)
+    }
 }

@@ -1,13 +1,20 @@
 -- Loops over the items of the names line, and what they decide. Assumes nothing.
 use mathlib.Core.Path.{◌≡◌, refl, sym, ap, ◌∙◌}
-use mathlib.Core.Bool.{Bool, true, false, cond, not, ◌&&◌, and-true, and_assoc}
-use mathlib.Core.List.{List, ◌∷◌}
+use mathlib.Core.Bool.{Bool, true, false, cond, not, ◌&&◌, ◌||◌, and-true, and_assoc}
+use mathlib.Core.Logic.{⊎_elim}
+use mathlib.Core.List.{List, [], ◌∷◌}
 use Prim.Native.Nat.{ℕ, ◌+◌, ◌-◌, ◌≤◌, ◌<◌}
 use native.Mathlib.Omega.{arith}
-use lib.Dec.{leb}
+use lib.Dec.{eqb, leb}
+use lib.Pointwise.{pointwise}
 use lib.ListN.{length, take, drop, length-drop}
 use lib.Seq.{length-take-le, take_all, take-take}
-use borrow.Author.Tests.{le-leb}
+use borrow.Author.Tests.{le-leb, lt-leb, eq-eqb, ne_eqb}
+use Rattle.std.specs.List.{list_any, slice_split}
+use Rattle.std.proofs.lemmas.List.Recursion.{same_from_clauses}
+use Rattle.sets.proofs.Tests.{dec, lt_or_ge, same?}
+use Rattle.lists.proofs.Loops.{same_true}
+use Rattle.table_names.proofs.Chains.{split_pieces}
 use Rattle.sets.specs.Lists.{every, any_of}
 use Rattle.lists.specs.Bytes.{same, distinct, pieces, left, EndsAt}
 use Rattle.lists.proofs.Pieces.{part, left_start, left_step, left_done, length-pieces}
@@ -17,7 +24,7 @@ use Rattle.program.proofs.Places.{up_to}
 use Rattle.text.specs.Lines.{HasLine, is_dated, names}
 use Rattle.text.specs.Refusals.{names_broken, names_equal}
 use Rattle.text.proofs.Tests.{dated_is, names_are}
-use Rattle.text.proofs.Words.{word_bytes, dated_long, dated_bytes, names_front}
+use Rattle.text.proofs.Words.{word_bytes, short-undated, dated_long, dated_bytes, names_front}
 use Rattle.namesline.specs.declared.NamesLine.{NamesLine}
 use Rattle.namesline.specs.NamesLine.{names_said, NamesEnd, names_refusal}
 
@@ -25,26 +32,6 @@ module _ (xs : List ℕ) where
   -- the next item, and those behind it
   step : (at e : ℕ) → at ≤ length xs → EndsAt xs 32 at e → left 32 xs at ≡ part xs at e ∷ left 32 xs (e + 1)
   step at e h q = rw q.is (left_step 32 xs at h)
-
-  module _ (p : List ℕ → Bool) (from : ℕ) where
-    -- none of the items between from and at passes
-    pub record Missed (at : ℕ) : Type 0 where
-      pub rest : any_of p (left 32 xs at) ≡ any_of p (left 32 xs from)
-
-    pub missed_start : Missed from
-    missed_start = record { rest = refl }
-
-    pub missed_hit : (at e : ℕ) → Missed at → at ≤ length xs → EndsAt xs 32 at e → p (part xs at e) ≡ true → true ≡ any_of p (left 32 xs from)
-    unfolding any_of
-    missed_hit at e s h q t = rw (step at e h q, t) at s.rest
-
-    pub missed_more : (at e : ℕ) → Missed at → at ≤ length xs → EndsAt xs 32 at e → p (part xs at e) ≡ false → Missed (e + 1)
-    unfolding any_of
-    missed_more at e s h q t = record { rest = rw (step at e h q, t) at s.rest }
-
-    pub missed_done : (at : ℕ) → Missed at → length xs < at → false ≡ any_of p (left 32 xs from)
-    unfolding any_of
-    missed_done at s h = rw (left_done 32 xs at h) at s.rest
 
   -- the items below at have been counted and tested
   pub record Naming (at count : ℕ) (named apart : Bool) : Type 0 where
@@ -85,12 +72,38 @@ module _ (xs : List ℕ) where
       let a : apart ≡ distinct (pieces 32 xs) = sym (and-true apart) ∙ (rw e at s.differ) in
       rw (c, n, a)
 
+-- ---- the items behind a place
+pub any_behind : (p : List ℕ → Bool) (xs : List ℕ) (from : ℕ) (r : Bool) → from ≤ length xs → r ≡ list_any p (slice_split (λ b. eqb b 32) (take (length xs - from) (drop from xs))) → r ≡ any_of p (left 32 xs from)
+unfolding left any_of
+any_behind p xs from r h e = rw (le-leb from (length xs) h)
+    (e ∙ ap (λ (l : List ℕ). list_any p (slice_split (λ b. eqb b 32) l)) (take_all (length xs - from) (drop from xs) (omega (arith, length-drop from xs)))
+    ∙ ap (list_any p) (split_pieces 32 (drop from xs)) ∙ same_from_clauses (list_any p) (any_of p) (λ x b. p x || b) refl (λ _ _. refl) (λ _ _. refl) (pieces 32 (drop from xs)))
+
+pub none_behind : (p : List ℕ → Bool) (xs : List ℕ) (from : ℕ) → length xs < from → leb from (length xs) ≡ any_of p (left 32 xs from)
+unfolding left any_of
+none_behind p xs from h = rw (lt-leb from (length xs) h)
+
 -- ---- whether the items end in the two words
-pub dated_part : (line : List ℕ) (t : Bool) → 8 ≤ length line → t ≡ same (take (length line - (length line - 8)) (drop (length line - 8) line)) word_bytes
-    → t ≡ ends_dated (pieces 32 line)
-dated_part line t h e =
-    let k = take_all (length line - (length line - 8)) (drop (length line - 8) line) (omega (arith, length-drop (length line - 8) line)) in
-    e ∙ ap (λ (l : List ℕ). same l word_bytes) k ∙ dated_bytes line h
+eqb_swap : (x y : ℕ) → eqb x y ≡ eqb y x
+eqb_swap x y = ⊎_elim (λ (e : x ≡ y). rw (eq-eqb x y e, eq-eqb y x (sym e))) (λ f. rw (ne_eqb x y f, ne_eqb y x (λ e. f (sym e)))) (same? x y)
+
+pointwise_same : (xs ys : List ℕ) → pointwise eqb xs ys ≡ same ys xs
+unfolding same
+pointwise_same [] [] = refl
+pointwise_same [] (y ∷ ys) = refl
+pointwise_same (x ∷ xs) [] = refl
+pointwise_same (x ∷ xs) (y ∷ ys) = rw (eqb_swap x y, pointwise_same xs ys)
+
+pub dated_part : (line : List ℕ) (t : Bool) → t ≡ pointwise eqb word_bytes (drop (length line - 8) line) → t ≡ ends_dated (pieces 32 line)
+dated_part line t e =
+    let d = drop (length line - 8) line in
+    let same_end : t ≡ same d word_bytes = e ∙ pointwise_same word_bytes d in
+    ⊎_elim
+    (λ (l : length line < 8).
+    let other : same d word_bytes ≡ false = ⊎_elim (λ k. absurd (omega (arith, ap length (same_true d word_bytes k), length-drop (length line - 8) line))) (λ f. f) (dec (same d word_bytes)) in
+    same_end ∙ other ∙ short-undated line l)
+    (λ h. same_end ∙ dated_bytes line h)
+    (lt_or_ge (length line) 8)
 
 -- ---- where the names end
 module _ (b : List ℕ) (e : ℕ) (h : HasLine b) (q : EndsAt b 10 0 e) where
@@ -131,14 +144,6 @@ module _ (b : List ℕ) (e : ℕ) (l : NamesLine) (h : HasLine b) (q : NamesEnd 
   unfolding names_said names_equal
   equal_is = rw (f, ← q.items)
 
-  pub five : not (leb l.count 12 && l.named) ≡ true → 5 ≡ names_refusal b
+  pub refusal_tests : names_refusal b ≡ cond (not (leb l.count 12 && l.named)) 5 (cond (not l.apart) 6 0)
   unfolding names_refusal lowest
-  five t = rw (← broken_is, t)
-
-  pub six : not (leb l.count 12 && l.named) ≡ false → not l.apart ≡ true → 6 ≡ names_refusal b
-  unfolding names_refusal lowest
-  six t u = rw (← broken_is, t, ← equal_is, u)
-
-  pub neither : not (leb l.count 12 && l.named) ≡ false → not l.apart ≡ false → 0 ≡ names_refusal b
-  unfolding names_refusal lowest
-  neither t u = rw (← broken_is, t, ← equal_is, u)
+  refusal_tests = rw (broken_is, equal_is)

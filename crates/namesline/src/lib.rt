@@ -7,7 +7,9 @@ ghost use Rattle.lists.specs.Bytes.{same, pieces, left};
 ghost use Rattle.program.specs.Names.{ends_dated};
 ghost use Rattle.text.specs.Lines.{HasLine, is_dated};
 ghost use Rattle.namesline.specs.NamesLine.{names_said, NamesEnd, names_refusal};
+ghost use Rattle.program.specs.Refusals.{refused_by};
 
+use program::{Refusal, Verdict};
 use text::{NEWLINE, SPACE};
 
 // What the items on a line are: how many, whether each is a name, and whether no two are equal.
@@ -22,15 +24,10 @@ struct NamesLine {
 fn stands_again(line: &[u8], from: usize, item: &[u8]) -> bool
     ensures { result ≡ any_of (same item.now) (left 32 line.now from) }
 {
-    let mut at = from;
-    while at <= line.len() {
-        let e = lists::end_of(line, at, SPACE);
-        if lists::same_bytes(item, &line[at..e]) {
-            return true;
-        }
-        at = e + 1;
-    }
-    false
+    from <= line.len()
+        && line[from..]
+            .split(|b| *b == SPACE)
+            .any(|x| lists::same_bytes(item, x))
 }
 
 // What the items on a line are, in one pass.
@@ -41,18 +38,19 @@ fn names_line(line: &[u8]) -> NamesLine
     let mut named = true;
     let mut apart = true;
     let mut at: usize = 0;
+    // A `while`: of each item the place is wanted too, behind which it is looked for again.
     while at <= line.len() {
         let e = lists::end_of(line, at, SPACE);
         let next = e + 1;
-        named = named & table_names::is_name(&line[at..e]);
-        apart = apart & !stands_again(line, next, &line[at..e]);
+        named &= table_names::is_name(&line[at..e]);
+        apart &= !stands_again(line, next, &line[at..e]);
         count += 1;
         at = next;
     }
     NamesLine {
-        count: count,
-        named: named,
-        apart: apart,
+        count,
+        named,
+        apart,
     }
 }
 
@@ -63,11 +61,7 @@ const WORD_BYTES: usize = 8;
 fn ends_dated(line: &[u8]) -> bool
     ensures { result ≡ ends_dated (pieces 32 line.now) }
 {
-    if line.len() < WORD_BYTES {
-        return false;
-    }
-    let from = line.len() - WORD_BYTES;
-    lists::same_bytes(&line[from..], b" from to")
+    line.ends_with(b" from to")
 }
 
 // Whether a text with a first line is a dated book.
@@ -86,24 +80,25 @@ pub fn names_end(text: &[u8]) -> usize
 {
     let e = lists::end_of(text, 0, NEWLINE);
     if ends_dated(&text[..e]) {
-        return e - WORD_BYTES;
+        e - WORD_BYTES
+    } else {
+        e
     }
-    e
 }
 
 // ---- the refusals
-// Refusal 5 or 6 of a text with a first line, 0 for neither.
-pub fn names_refusal(text: &[u8]) -> u8
+// Refusal 5 or 6 of a text with a first line, if one applies.
+pub fn names_refusal(text: &[u8]) -> Verdict
     requires { HasLine text.now }
-    ensures { result ≡ names_refusal text.now }
+    ensures { refused_by result ≡ names_refusal text.now }
 {
     let e = names_end(text);
     let names = names_line(&text[..e]);
-    if !((names.count <= 12) & names.named) {
-        return program::NAMES_BROKEN;
+    if 12 < names.count || !names.named {
+        Err(Refusal::NamesBroken)
+    } else if !names.apart {
+        Err(Refusal::NamesEqual)
+    } else {
+        Ok(())
     }
-    if !names.apart {
-        return program::NAMES_EQUAL;
-    }
-    0
 }

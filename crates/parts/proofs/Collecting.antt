@@ -1,5 +1,5 @@
 -- Laws of the literal parts, collected and written. Assumes nothing.
-use Prim.Native.Nat.{ℕ, suc, ◌+◌, ◌-◌, ◌*◌, ◌/◌, ◌%◌, ◌^◌, ◌≤◌, ◌<◌}
+use Prim.Native.Nat.{ℕ, suc, ◌+◌, ◌-◌, ◌*◌, ◌/◌, ◌%◌, ◌^◌, ◌≤◌, ◌<◌, min}
 use lib.Bits.{bit_and, and_mask}
 use lib.Dec.{eqb, lit<}
 use lib.ListN.{length, get_or, take, drop, set, length-set, drop_of_length-le, length-map, length-take}
@@ -15,6 +15,7 @@ use native.Mathlib.Omega.{arith}
 use Rattle.transform.specs.Listing.{literal_part, canonical, parts_of}
 use Rattle.parts.specs.Overwriting.{overwrite, Overwrites}
 use Rattle.sets.proofs.Lists.{at_in, map_in}
+use Rattle.sets.proofs.Tests.{lt_or_ge}
 use Rattle.sets.specs.Lists.{◌∈◌, Each, sift}
 use Rattle.sets.specs.Words.{inside}
 use Rattle.rising.proofs.Growing.{Growing, no_runs, held_none, grow_start, grow_call, grow_done}
@@ -146,15 +147,16 @@ module _ (ws : List ℕ) (count : ℕ) (xs : List ℕ) where
     len : length (take count ws) ≡ count
     len = length-take-le count ws s.inside
 
-    pub writing_small : p < count → get_or ws p 0 < 2 ^ 32
-    writing_small h = subst (λ (x : ℕ). x < 2 ^ 32) (get_or-take count ws p 0 h) (s.small (get_or (take count ws) p 0) (at_in (take count ws) 0 p (omega (arith, len))))
+    pub writing_small : (n : ℕ) → n ≡ min count (length xs) → p < n → get_or ws p 0 < 2 ^ 32
+    writing_small n e l = let h : p < count = omega arith in subst (λ (x : ℕ). x < 2 ^ 32) (get_or-take count ws p 0 h) (s.small (get_or (take count ws) p 0) (at_in (take count ws) 0 p (omega (arith, len))))
 
-    pub writing_there : (p ≡ length ys → ⊥) → p < length ys
-    writing_there n = omega (arith, n, s.room, s.long)
+    pub writing_there : (n : ℕ) → n ≡ min count (length xs) → p < n → p < length ys
+    writing_there n e l = omega (arith, s.long)
 
-    pub writing_next : (x : ℕ) → p < count → (p ≡ length ys → ⊥) → x ≡ get_or ws p 0 → Writing ws count xs (set ys p x) (p + 1)
-    writing_next x h n e =
-        let k : p < length xs = omega (arith, n, s.room, s.long) in
+    pub writing_next : (n x : ℕ) → n ≡ min count (length xs) → p < n → x ≡ get_or ws p 0 → Writing ws count xs (set ys p x) (p + 1)
+    writing_next n x f l e =
+        let h : p < count = omega arith in
+        let k : p < length xs = omega arith in
         let a : length (take p (take count ws)) ≡ p = length-take-le p (take count ws) (omega (arith, len)) in
         record {
           inside = s.inside;
@@ -169,19 +171,22 @@ module _ (ws : List ℕ) (count : ℕ) (xs : List ℕ) where
               ∙ ap (λ (i : ℕ). take i (take count ws) ++ drop i xs) (sym (add-one p));
         }
 
-    pub writing_full : p < count → p ≡ length ys → ys ≡ overwrite xs (take count ws)
+    writing_full : p < count → p ≡ length ys → ys ≡ overwrite xs (take count ws)
     unfolding overwrite
     writing_full h e =
         let k : p ≡ length xs = e ∙ s.long in
         s.whole ∙ ap₂ (λ (u v : List ℕ). u ++ v) (ap (λ (i : ℕ). take i (take count ws)) k)
         (drop_of_length-le xs {i = p} (omega arith) ∙ sym (drop_of_length-le xs {i = length (take count ws)} (omega (arith, len))))
 
-    pub writing_done : count ≤ p → ys ≡ overwrite xs (take count ws)
+    writing_done : count ≤ p → ys ≡ overwrite xs (take count ws)
     unfolding overwrite
     writing_done h =
         let k : p ≡ length (take count ws) = omega (arith, len, s.within) in
         s.whole ∙ ap₂ (λ (u v : List ℕ). u ++ v)
         (take_all p (take count ws) (omega arith) ∙ sym (take_all (length xs) (take count ws) (omega (arith, s.room)))) (ap (λ (i : ℕ). drop i xs) k)
+
+    pub writing_end : (n : ℕ) → n ≡ min count (length xs) → n ≤ p → ys ≡ overwrite xs (take count ws)
+    writing_end n e l = ⊎_elim (λ (h : p < count). writing_full h (omega (arith, s.room, s.long))) writing_done (lt_or_ge p count)
 
 -- ---- the literal parts, listed
 

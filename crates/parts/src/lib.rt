@@ -28,25 +28,14 @@ fn collect(list: &[u64], count: usize, m: u32, set: &mut [u64]) -> usize
     requires { (count ≤ length list.now) × (count ≤ length set.old) × (m < 64) }
     ensures { Prefix (parts_of m (take count list.now)) set.new result }
 {
-    let mut n: usize = 0;
-    let mut p: usize = 0;
-    while p < count {
+    let mut n = 0;
+    for p in 0..count {
         if is_canonical(list[p], m) {
             n = fix_add::add(set, n, low_part(list[p], m));
-            p += 1;
-        } else {
-            p += 1;
         }
     }
     fix_add::settle(set, n);
     n
-}
-
-fn narrow(x: u64) -> u32
-    requires { x < 2 ^ 32 }
-    ensures { result ≡ x }
-{
-    x as u32
 }
 
 // Writes the first `count` words into the list, as many as fit.
@@ -54,13 +43,9 @@ fn write_models(words: &[u64], count: usize, models: &mut [u32])
     requires { (count ≤ length words.now) × Each (λ x. x < 2 ^ 32) (take count words.now) }
     ensures { models.new ≡ overwrite models.old (take count words.now) }
 {
-    let mut p: usize = 0;
-    while p < count {
-        if p == models.len() {
-            return;
-        }
-        models[p] = narrow(words[p]);
-        p += 1;
+    let n = count.min(models.len());
+    for p in 0..n {
+        models[p] = words[p] as u32;
     }
 }
 

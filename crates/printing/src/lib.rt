@@ -7,7 +7,7 @@ ghost use Rattle.wording.specs.Printed.{refused_line};
 ghost use Rattle.listings.specs.Listing.{listing};
 ghost use Rattle.printing.specs.Ready.{most_bytes, ReadyToList};
 
-use program::Program;
+use program::{Program, Refusal};
 
 // The report's limit of nodes, which no search of a table that was read exceeds.
 pub const NODE_LIMIT: u64 = 33_554_431;
@@ -16,11 +16,11 @@ pub const NODE_LIMIT: u64 = 33_554_431;
 pub const MOST_PLACES: usize = 4096;
 
 // The line of a refusal, of a book or of a call.
-pub fn put_refused(number: u8, out: &mut [u8]) -> usize
+pub fn put_refused(refusal: Refusal, out: &mut [u8]) -> usize
     requires { most_bytes ≤ length out.old }
-    ensures { Wrote (refused_line number) out.old result out.new }
+    ensures { Wrote (refused_line refusal) out.old result out.new }
 {
-    wording::put_refused_line(out, number as u64)
+    wording::put_refused_line(out, refusal)
 }
 
 // The names line, and a line for each of the words, which are at most `MOST_PLACES`.
@@ -28,8 +28,5 @@ pub fn put_models(p: Program, words: &[u32], out: &mut [u8]) -> usize
     requires { ReadyToList p words.now out.old }
     ensures { Wrote (listing p words.now) out.old result out.new }
 {
-    let n = p.atom_count;
-    let names = p.atom_names;
-    let m = words.len();
-    listings::put_listing(out, &names, n, words, m)
+    listings::put_listing(out, &p.atom_names, p.atom_count, words, words.len())
 }

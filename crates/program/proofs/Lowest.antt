@@ -1,16 +1,17 @@
 -- Where the numbers rise, the first whose test holds is the lowest that applies. Assumes nothing.
-use mathlib.Core.Path.{◌≡◌, refl, sym, ap, ◌∙◌}
+use mathlib.Core.Path.{◌≡◌, refl, sym, ap, ◌∙◌, subst}
 use mathlib.Core.Bool.{Bool, true, false, cond, ◌&&◌}
 use mathlib.Core.List.{List, [], ◌∷◌}
-use mathlib.Core.Logic.{◌⊎◌, inl, inr, ⊎_elim}
-use Prim.Native.Nat.{ℕ, ◌<◌}
+use mathlib.Core.Logic.{inl, inr, ⊎_elim}
+use Prim.Native.Nat.{ℕ, ◌^◌, ◌<◌}
 use native.Mathlib.Omega.{arith}
-use lib.Dec.{ltb}
-use borrow.Author.Tests.{ltb-true}
+use lib.Dec.{eqb, ltb}
+use borrow.Author.Tests.{eqb-true, ltb-true}
 use Rattle.sets.proofs.Tests.{both_true, clash}
-use Rattle.program.specs.declared.Verdict.{Verdict}
-use Rattle.program.specs.declared.Verdict.TheVariants.{Accepted, Refused}
-use Rattle.program.specs.Refusals.{lowest, Applies, Lowest}
+use Rattle.std.specs.Prelude.{Result, Ok, Err}
+use Rattle.program.specs.declared.Refusal.{Refusal}
+use Rattle.program.specs.declared.Refusal.TheVariants.{WrongSize, Unended, ForeignByte, TooManyLines, NamesBroken, NamesEqual, ClauseBroken, OnlyZeros, InvalidProgram, OutsideWord, TooManyMembers, TooLittleRoom, SliceTooShort, AlreadyHeld, NoClause, NoPlaceLeft, DaysReversed}
+use Rattle.program.specs.Refusals.{number, numbered, refusal_of, lowest, Applies, Lowest}
 
 -- the numbers rise, and all lie above k
 unfoldable pub rises : ℕ → List (ℕ × Bool) → Bool
@@ -80,6 +81,93 @@ module _ (ts : List (ℕ × Bool)) (r : rises 0 ts ≡ true) where
 pub one_lowest : (ts : List (ℕ × Bool)) (n m : ℕ) → Lowest ts n → Lowest ts m → n ≡ m
 one_lowest ts n m a b = omega (arith, a.least m b.applies, b.least n a.applies)
 
--- ---- no verdict is both
-pub not_both : {A : Type 0} {v : Verdict} {n : ℕ} → v ≡ Accepted → v ≡ Refused n → A
-not_both a b = absurd (let z : ◌≡◌ {A = ℕ} 0 1 = cc in omega arith)
+-- ---- the refusal of a number
+pub of_number : (r : Refusal) → refusal_of (number r) ≡ r
+unfolding numbered
+of_number WrongSize = refl
+of_number Unended = refl
+of_number ForeignByte = refl
+of_number TooManyLines = refl
+of_number NamesBroken = refl
+of_number NamesEqual = refl
+of_number ClauseBroken = refl
+of_number OnlyZeros = refl
+of_number InvalidProgram = refl
+of_number OutsideWord = refl
+of_number TooManyMembers = refl
+of_number TooLittleRoom = refl
+of_number SliceTooShort = refl
+of_number AlreadyHeld = refl
+of_number NoClause = refl
+of_number NoPlaceLeft = refl
+of_number DaysReversed = refl
+
+-- no two have one number
+pub same_refusal : (r s : Refusal) → number r ≡ number s → r ≡ s
+same_refusal r s e = sym (of_number r) ∙ ap refusal_of e ∙ of_number s
+
+-- each number in a list is that of a refusal
+unfoldable pub numbers_known : List (ℕ × Bool) → Bool
+numbers_known [] = true
+numbers_known (t ∷ ts) = eqb (number (refusal_of t.0)) t.0 && numbers_known ts
+
+pub number_of : (ts : List (ℕ × Bool)) → numbers_known ts ≡ true → (n : ℕ) → Applies ts n → number (refusal_of n) ≡ n
+unfolding numbers_known
+number_of [] k n a = absurd a.1
+number_of (t ∷ ts) k n a =
+    let b = both_true (eqb (number (refusal_of t.0)) t.0) (numbers_known ts) k in
+    ⊎_elim
+    (λ (q : a.0 ≡ t). subst (λ (m : ℕ). number (refusal_of m) ≡ m) (ap (λ (x : ℕ × Bool). x.0) (sym q) ∙ a.2.0) (eqb-true (number (refusal_of t.0)) t.0 b.0))
+    (λ i. number_of ts b.1 n (a.0, i, a.2))
+    a.1
+
+-- ---- no answer is both
+pub not_both : {A B : Type 0} {v : Result B Refusal} {b : B} {r : Refusal} → v ≡ Ok b → v ≡ Err r → A
+not_both a b = absurd (cc (a, b))
+
+-- the lowest that applies is the number of a refusal
+pub number_lowest : (ts : List (ℕ × Bool)) → rises 0 ts ≡ true → numbers_known ts ≡ true → (lowest ts ≡ 0 → ⊥) → number (refusal_of (lowest ts)) ≡ lowest ts
+number_lowest ts r k d = number_of ts k (lowest ts) (lowest_is ts r d).applies
+
+-- none has the number 0
+pub number_some : (r : Refusal) → number r ≡ 0 → ⊥
+number_some WrongSize e = omega arith
+number_some Unended e = omega arith
+number_some ForeignByte e = omega arith
+number_some TooManyLines e = omega arith
+number_some NamesBroken e = omega arith
+number_some NamesEqual e = omega arith
+number_some ClauseBroken e = omega arith
+number_some OnlyZeros e = omega arith
+number_some InvalidProgram e = omega arith
+number_some OutsideWord e = omega arith
+number_some TooManyMembers e = omega arith
+number_some TooLittleRoom e = omega arith
+number_some SliceTooShort e = omega arith
+number_some AlreadyHeld e = omega arith
+number_some NoClause e = omega arith
+number_some NoPlaceLeft e = omega arith
+number_some DaysReversed e = omega arith
+
+-- the refusal of a number that a call gave
+pub refusal_is : (r : Refusal) (n : ℕ) → number r ≡ n → refusal_of n ≡ r
+refusal_is r n e = ap refusal_of (sym e) ∙ of_number r
+
+pub number_few : (r : Refusal) → number r < 2 ^ 8
+number_few WrongSize = omega arith
+number_few Unended = omega arith
+number_few ForeignByte = omega arith
+number_few TooManyLines = omega arith
+number_few NamesBroken = omega arith
+number_few NamesEqual = omega arith
+number_few ClauseBroken = omega arith
+number_few OnlyZeros = omega arith
+number_few InvalidProgram = omega arith
+number_few OutsideWord = omega arith
+number_few TooManyMembers = omega arith
+number_few TooLittleRoom = omega arith
+number_few SliceTooShort = omega arith
+number_few AlreadyHeld = omega arith
+number_few NoClause = omega arith
+number_few NoPlaceLeft = omega arith
+number_few DaysReversed = omega arith

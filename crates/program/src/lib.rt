@@ -1,5 +1,8 @@
-// The table of a program, by value, what calls answer, and the numbers of the refusals: definitions and laws, and no function.
+// The table of a program, by value, and what calls answer: definitions and laws, and the number of a refusal.
 #![tactic(auto)]
+
+ghost use Rattle.std.specs.Prelude.{◌≡◌};
+ghost use Rattle.program.specs.Refusals.{number};
 
 // ---- the table
 // "Names: 1 to 12", each in a place of eight bytes; "Clauses: 0 to 64".
@@ -39,12 +42,66 @@ pub struct Program {
 }
 
 // ---- what calls answer
-// Whether a call takes its input, or the refusal that it gives.
-#[derive(Clone, Copy)]
-pub enum Verdict {
-    Accepted,
-    Refused(u8),
+// Why a call refuses its input.
+#[derive(Clone, Copy, Debug, PartialEq, Eq)]
+pub enum Refusal {
+    WrongSize,
+    Unended,
+    ForeignByte,
+    TooManyLines,
+    NamesBroken,
+    NamesEqual,
+    ClauseBroken,
+    OnlyZeros,
+    // The table is none that the reader could give, with or without a clause that may be held.
+    InvalidProgram,
+    // A word has a bit at 2n or above.
+    OutsideWord,
+    // For the fixpoint, W exceeds 64.
+    TooManyMembers,
+    // Some stage has more members than the working room.
+    TooLittleRoom,
+    // The writer's slice is shorter than the text.
+    SliceTooShort,
+    // On holding, a clause is held already.
+    AlreadyHeld,
+    // The clause to hold is empty, or uses a bit outside the names.
+    NoClause,
+    // As many clauses stand as a table has places for.
+    NoPlaceLeft,
+    // In a dated book or table a first day is after its last.
+    DaysReversed,
 }
+
+// A refusal carries its number; 1 to 8 are the reader's.
+impl From<Refusal> for u8 {
+    ghost from_gives = { λ refusal n. n ≡ number refusal };
+
+    fn from(refusal: Refusal) -> u8 {
+        match refusal {
+            Refusal::WrongSize => 1,
+            Refusal::Unended => 2,
+            Refusal::ForeignByte => 3,
+            Refusal::TooManyLines => 4,
+            Refusal::NamesBroken => 5,
+            Refusal::NamesEqual => 6,
+            Refusal::ClauseBroken => 7,
+            Refusal::OnlyZeros => 8,
+            Refusal::InvalidProgram => 9,
+            Refusal::OutsideWord => 10,
+            Refusal::TooManyMembers => 11,
+            Refusal::TooLittleRoom => 12,
+            Refusal::SliceTooShort => 13,
+            Refusal::AlreadyHeld => 16,
+            Refusal::NoClause => 17,
+            Refusal::NoPlaceLeft => 18,
+            Refusal::DaysReversed => 22,
+        }
+    }
+}
+
+// Whether a call takes its input, or why not.
+pub type Verdict = Result<(), Refusal>;
 
 // How a call that lists models ended; document 01's outcomes.
 #[derive(Clone, Copy)]
@@ -52,50 +109,4 @@ pub enum Outcome {
     Complete,
     Full,
     Spent,
-    Refused(u8),
 }
-
-// ---- the numbers of the refusals
-// 1 to 8, of the reader.
-pub const WRONG_SIZE: u8 = 1;
-
-pub const UNENDED: u8 = 2;
-
-pub const FOREIGN_BYTE: u8 = 3;
-
-pub const TOO_MANY_LINES: u8 = 4;
-
-pub const NAMES_BROKEN: u8 = 5;
-
-pub const NAMES_EQUAL: u8 = 6;
-
-pub const CLAUSE_BROKEN: u8 = 7;
-
-pub const ONLY_ZEROS: u8 = 8;
-
-// The table is none that the reader could give, with or without a clause that may be held.
-pub const INVALID_PROGRAM: u8 = 9;
-
-// A word has a bit at 2n or above.
-pub const OUTSIDE_WORD: u8 = 10;
-
-// For the fixpoint, W exceeds 64.
-pub const TOO_MANY_MEMBERS: u8 = 11;
-
-// Some stage has more members than the working room.
-pub const TOO_LITTLE_ROOM: u8 = 12;
-
-// The writer's slice is shorter than the text.
-pub const SLICE_TOO_SHORT: u8 = 13;
-
-// On holding, a clause is held already.
-pub const ALREADY_HELD: u8 = 16;
-
-// The clause to hold is empty, or uses a bit outside the names.
-pub const NO_CLAUSE: u8 = 17;
-
-// As many clauses stand as a table has places for.
-pub const NO_PLACE_LEFT: u8 = 18;
-
-// In a dated book or table a first day is after its last.
-pub const DAYS_REVERSED: u8 = 22;

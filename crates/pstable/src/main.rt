@@ -4,7 +4,6 @@
 ghost use Rattle.std.specs.Prelude.{◌≤◌};
 
 use commands::MOST_BYTES;
-use decimal::Parsed;
 use fixing::MOST_WORDS;
 use printing::MOST_PLACES;
 use say_words::Command;
@@ -22,7 +21,7 @@ enum Asked {
 
 // ---- from words to a command
 // The number up to `bound` that argument `i` is; a missing one, and one that is too long, has no digits.
-fn number(env: &impl Env, i: usize, bound: u64) -> Parsed {
+fn number(env: &impl Env, i: usize, bound: u64) -> Option<u64> {
     let mut digits = [0u8; 32];
     let n = inputs::argument(env, i, &mut digits);
     decimal::read_number(&digits[..n], bound)
@@ -32,7 +31,7 @@ fn number(env: &impl Env, i: usize, bound: u64) -> Parsed {
 fn check(env: &impl Env, at: usize) -> Asked
     requires { at ≤ 3 }
 {
-    let Parsed::Number(w) = number(env, at + 1, 4294967295) else {
+    let Some(w) = number(env, at + 1, 4294967295) else {
         return Asked::Wrong;
     };
     Asked::Run(Command::Check((w % 4294967296) as u32))
@@ -41,10 +40,10 @@ fn check(env: &impl Env, at: usize) -> Asked
 fn search(env: &impl Env, at: usize) -> Asked
     requires { at ≤ 3 }
 {
-    let Parsed::Number(limit) = number(env, at + 1, 18446744073709551615) else {
+    let Some(limit) = number(env, at + 1, 18446744073709551615) else {
         return Asked::Wrong;
     };
-    let Parsed::Number(places) = number(env, at + 2, MOST_PLACES as u64) else {
+    let Some(places) = number(env, at + 2, MOST_PLACES as u64) else {
         return Asked::Wrong;
     };
     Asked::Run(Command::Search(limit, places as usize))
@@ -53,10 +52,10 @@ fn search(env: &impl Env, at: usize) -> Asked
 fn fixpoint(env: &impl Env, at: usize) -> Asked
     requires { at ≤ 3 }
 {
-    let Parsed::Number(places) = number(env, at + 1, MOST_PLACES as u64) else {
+    let Some(places) = number(env, at + 1, MOST_PLACES as u64) else {
         return Asked::Wrong;
     };
-    let Parsed::Number(capacity) = number(env, at + 2, MOST_WORDS as u64) else {
+    let Some(capacity) = number(env, at + 2, MOST_WORDS as u64) else {
         return Asked::Wrong;
     };
     Asked::Run(Command::Fixpoint(places as usize, capacity as usize))
@@ -66,19 +65,19 @@ fn fixpoint(env: &impl Env, at: usize) -> Asked
 fn clause(env: &impl Env, at: usize, keep: bool) -> Asked
     requires { at ≤ 3 }
 {
-    let Parsed::Number(head) = number(env, at + 1, 4294967295) else {
+    let Some(head) = number(env, at + 1, 4294967295) else {
         return Asked::Wrong;
     };
-    let Parsed::Number(body) = number(env, at + 2, 4294967295) else {
+    let Some(body) = number(env, at + 2, 4294967295) else {
         return Asked::Wrong;
     };
-    let Parsed::Number(naf) = number(env, at + 3, 4294967295) else {
+    let Some(naf) = number(env, at + 3, 4294967295) else {
         return Asked::Wrong;
     };
-    let Parsed::Number(first) = number(env, at + 4, MOST_DAY) else {
+    let Some(first) = number(env, at + 4, MOST_DAY) else {
         return Asked::Wrong;
     };
-    let Parsed::Number(last) = number(env, at + 5, MOST_DAY) else {
+    let Some(last) = number(env, at + 5, MOST_DAY) else {
         return Asked::Wrong;
     };
     let h = (head % 4294967296) as u32;
@@ -96,25 +95,25 @@ fn clause(env: &impl Env, at: usize, keep: bool) -> Asked
 fn understood(env: &impl Env, word: &[u8], at: usize, count: usize) -> Asked
     requires { at ≤ 3 }
 {
-    if lists::same_bytes(word, b"check") & (count == at + 2) {
+    if lists::same_bytes(word, b"check") && count == at + 2 {
         return check(env, at);
     }
-    if lists::same_bytes(word, b"search") & (count == at + 3) {
+    if lists::same_bytes(word, b"search") && count == at + 3 {
         return search(env, at);
     }
-    if lists::same_bytes(word, b"fixpoint") & (count == at + 3) {
+    if lists::same_bytes(word, b"fixpoint") && count == at + 3 {
         return fixpoint(env, at);
     }
-    if lists::same_bytes(word, b"summary") & (count == at + 1) {
+    if lists::same_bytes(word, b"summary") && count == at + 1 {
         return Asked::Run(Command::Summary);
     }
-    if lists::same_bytes(word, b"write") & (count == at + 1) {
+    if lists::same_bytes(word, b"write") && count == at + 1 {
         return Asked::Run(Command::Write);
     }
-    if lists::same_bytes(word, b"hold") & (count == at + 6) {
+    if lists::same_bytes(word, b"hold") && count == at + 6 {
         return clause(env, at, false);
     }
-    if lists::same_bytes(word, b"keep") & (count == at + 6) {
+    if lists::same_bytes(word, b"keep") && count == at + 6 {
         return clause(env, at, true);
     }
     Asked::Wrong
@@ -165,8 +164,8 @@ fn main(rt: HostRuntime) -> io::Result<()> {
     if lists::same_bytes(&word[..n], b"--day") {
         let day = number(&rt, 2, MOST_DAY);
         match day {
-            Parsed::Number(d) => obey(&rt, (d % 65536) as u16, 3),
-            Parsed::Nothing => complain(&rt),
+            Some(d) => obey(&rt, (d % 65536) as u16, 3),
+            None => complain(&rt),
         }
     } else {
         obey(&rt, 0, 1)

@@ -7,7 +7,7 @@ use lib.Dec.{ltb}
 use lib.ListN.{length, take, drop}
 use Rattle.lists.specs.Bytes.{EndsAt}
 use Rattle.decimal.specs.Decimal.{parsed_of}
-use Rattle.decimal.specs.declared.Parsed.{Parsed}
+use Rattle.std.proofs.Common.{Option}
 use Rattle.records.specs.Records.{behind_of, record_of, RecordAt, value_of, number_of, NumberAt}
 
 -- ---- behind the end of a part
@@ -42,7 +42,7 @@ record_found file at a b c d e f h p q r s t u =
     }
 
 -- ---- a number
-pub number_found : (line : List ℕ) (at e v f : ℕ) (parsed : Parsed) → EndsAt line 32 at e
+pub number_found : (line : List ℕ) (at e v f : ℕ) (parsed : Option ℕ) → EndsAt line 32 at e
     → parsed ≡ parsed_of 18446744073709551615 (take (e - at) (drop at line)) → v ≡ value_of parsed → f ≡ behind_of (length line) e
     → NumberAt line at (record { value = v; next = f })
 unfolding number_of

@@ -1,9 +1,7 @@
 -- A file of records: where the parts of a record stand, and the numbers of its line. Assumes nothing.
-use Rattle.std.specs.Prelude.{◌≡◌, List, ℕ, ◌+◌, ◌-◌, ◌≤◌, ◌<◌, min, ltb, length, take, drop}
+use Rattle.std.specs.Prelude.{◌≡◌, List, ℕ, ◌+◌, ◌-◌, ◌≤◌, ◌<◌, min, ltb, length, take, drop, Option, Some, None}
 use Rattle.lists.specs.Bytes.{end_of}
 use Rattle.decimal.specs.Decimal.{parsed_of}
-use Rattle.decimal.specs.declared.Parsed.{Parsed}
-use Rattle.decimal.specs.declared.Parsed.TheVariants.{Number, Nothing}
 use Rattle.records.specs.declared.Record.{Record}
 use Rattle.records.specs.declared.Number as numbered
 
@@ -35,9 +33,9 @@ pub record RecordAt (file : List ℕ) (at : ℕ) (r : Record) : Type 0 where
   pub next_in : r.next ≤ length file
 
 -- the number that a text is, the largest of 64 bits where it is none
-unfoldable pub value_of : Parsed → ℕ
-value_of (Number v) = v
-value_of Nothing = 18446744073709551615
+unfoldable pub value_of : Option ℕ → ℕ
+value_of (Some v) = v
+value_of None = 18446744073709551615
 
 -- the number from `at` up to a space or the line's end
 unfoldable pub number_of : List ℕ → ℕ → numbered.Number

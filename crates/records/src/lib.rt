@@ -5,8 +5,6 @@
 ghost use Rattle.std.specs.Prelude.{◌≡◌, ◌≤◌, ◌<◌, length};
 ghost use Rattle.records.specs.Records.{behind_of, value_of, RecordAt, NumberAt};
 
-use decimal::Parsed;
-
 // What stands for a number where there is none.
 pub const NO_NUMBER: u64 = 18_446_744_073_709_551_615;
 
@@ -33,10 +31,7 @@ pub struct Number {
 fn behind(end: usize, length: usize) -> usize
     ensures { result ≡ behind_of length end }
 {
-    if length <= end {
-        return length;
-    }
-    end + 1
+    if length <= end { length } else { end + 1 }
 }
 
 // The record that begins at `at`.
@@ -44,29 +39,29 @@ pub fn record_at(file: &[u8], at: usize) -> Record
     requires { at < length file.now }
     ensures { RecordAt file.now at result }
 {
-    let label_end = lists::end_of(file, at, 10);
+    let label_end = lists::end_of(file, at, b'\n');
     let text = behind(label_end, file.len());
-    let text_end = lists::end_of(file, text, 61);
+    let text_end = lists::end_of(file, text, b'=');
     let line = behind(text_end, file.len());
-    let line_end = lists::end_of(file, line, 10);
+    let line_end = lists::end_of(file, line, b'\n');
     let next = behind(line_end, file.len());
     Record {
-        label_end: label_end,
-        text: text,
-        text_end: text_end,
-        line: line,
-        line_end: line_end,
-        next: next,
+        label_end,
+        text,
+        text_end,
+        line,
+        line_end,
+        next,
         whole: line_end < file.len(),
     }
 }
 
-fn value_of(parsed: Parsed) -> u64
+fn value_of(parsed: Option<u64>) -> u64
     ensures { result ≡ value_of parsed }
 {
     match parsed {
-        Parsed::Number(v) => v,
-        Parsed::Nothing => NO_NUMBER,
+        Some(v) => v,
+        None => NO_NUMBER,
     }
 }
 
@@ -75,7 +70,7 @@ pub fn number_at(line: &[u8], at: usize) -> Number
     requires { at ≤ length line.now }
     ensures { NumberAt line.now at result }
 {
-    let end = lists::end_of(line, at, 32);
+    let end = lists::end_of(line, at, b' ');
     let value = value_of(decimal::read_number(&line[at..end], NO_NUMBER));
     Number {
         value: value,

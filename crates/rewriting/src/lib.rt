@@ -18,7 +18,7 @@ fn stand_mask(head: u32, s: u32) -> u64
     if head == 0 {
         return 0;
     }
-    ((1 << u32::count_ones(head)) - 1) << s
+    ((1 << head.count_ones()) - 1) << s
 }
 
 // K of each not-literal.
@@ -26,7 +26,7 @@ fn beliefs(m: u32, naf: u32) -> u64
     requires { (m ≤ 32) × (naf < 2 ^ m) }
     ensures { result ≡ mask (map (λ n. m + n) (literals naf)) }
 {
-    (naf as u64) << m
+    u64::from(naf) << m
 }
 
 // (a): its head.
@@ -51,8 +51,8 @@ fn rewrite(
     requires { Rewrites m s head body naf hs.old bs.old at }
     ensures { Emits (rewritten_from m s head body naf) hs.old bs.old at hs.new bs.new result }
 {
-    let n = emission::push(hs, bs, at, head_a(m, s, head, naf), body as u64);
-    standins::emit_bcd(head as u64, s, naf as u64, hs, bs, n)
+    let n = emission::push(hs, bs, at, head_a(m, s, head, naf), u64::from(body));
+    standins::emit_bcd(u64::from(head), s, u64::from(naf), hs, bs, n)
 }
 
 // What one clause becomes.
@@ -70,7 +70,7 @@ fn emit_clause(
     ensures { Emits (becomes m s (clause_of head body naf)) hs.old bs.old at hs.new bs.new result }
 {
     if naf == 0 {
-        return emission::push(hs, bs, at, head as u64, body as u64);
+        return emission::push(hs, bs, at, u64::from(head), u64::from(body));
     }
     rewrite(m, s, head, body, naf, hs, bs, at)
 }
@@ -90,12 +90,10 @@ pub fn transform<'a>(
     ensures { Emits (kappa_from m (m + m) (tabulate (clause_at heads.now bodies.now nafs.now) count)) hs.old bs.old 0 hs.new bs.new result }
 {
     let mut s = m + m;
-    let mut n: usize = 0;
-    let mut k: usize = 0;
-    while k < count {
+    let mut n = 0;
+    for k in 0..count {
         n = emit_clause(m, s, heads[k], bodies[k], nafs[k], hs, bs, n);
         s += vocabulary::stand_ins(heads[k], bodies[k], nafs[k]);
-        k += 1;
     }
     n
 }

@@ -30,28 +30,27 @@ pub fn weigh(row: Row, n: usize, dated: bool) -> ClauseLine
     let first = values[n];
     let last = values[n + 1];
     let counted = row.count == numbers_wanted(n, dated);
+    // `&`: the tests are one value, with which the loop begins.
     let mut holds = (first <= 65535) & (last <= 65535) & counted;
     let mut zero = counted;
     let mut head: u32 = 0;
     let mut body: u32 = 0;
     let mut naf: u32 = 0;
-    let mut i = n;
-    while 0 < i {
-        i -= 1;
+    for i in (0..n).rev() {
         let v = values[i];
-        holds = (v <= 63) & holds;
-        zero = (0 == v) & zero;
+        holds &= v <= 63;
+        zero &= v == 0;
         head = v % 4 + 4 * head;
         body = v / 4 % 4 + 4 * body;
         naf = v / 16 % 4 + 4 * naf;
     }
     ClauseLine {
-        holds: holds,
-        zero: zero,
+        holds,
+        zero,
         reversed: dated & (last < first),
-        head: head,
-        body: body,
-        naf: naf,
+        head,
+        body,
+        naf,
         first: day_of(first),
         last: day_of(last),
     }

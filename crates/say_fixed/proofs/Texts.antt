@@ -1,4 +1,7 @@
 -- What `fixpoint` prints: the room for it, and that it is the text of the call's answer. Assumes nothing.
+use Rattle.program.specs.Refusals.{refusal_of}
+use Rattle.program.specs.declared.Refusal.{Refusal}
+use Rattle.std.specs.Prelude.{Result, Ok, Err}
 use mathlib.Core.Path.{◌≡◌, refl, sym, ap, ◌∙◌, subst}
 use mathlib.Core.Bool.{Bool, true, false, cond}
 use mathlib.Core.List.{List, [], ◌∷◌, ◌++◌}
@@ -10,7 +13,6 @@ use lib.Seq.{length-take-le}
 use Rattle.lists.specs.Bytes.{Wrote}
 use Rattle.program.specs.declared.Program.{Program}
 use Rattle.program.specs.declared.Outcome.{Outcome}
-use Rattle.program.specs.declared.Outcome.TheVariants as outcome
 use Rattle.wording.specs.Printed.{outcome_word, numbered, refused_line}
 use Rattle.wording.proofs.Bounds.{numbered-most, outcome-most}
 use Rattle.listings.specs.Listing.{listing}
@@ -24,7 +26,7 @@ use Rattle.printing.proofs.Texts.{zeros, cut_zeros}
 use Rattle.say_fixed.specs.Texts.{unless_ended, work_slice, fixed_text, fixpoint_text}
 
 -- ---- the line of the outcome
-pub ended-most : (o : Outcome) (m : ℕ) → m < 2 ^ 64 → length (numbered (outcome_word o) m) ≤ 64
+pub ended-most : (o : Result Outcome Refusal) (m : ℕ) → m < 2 ^ 64 → length (numbered (outcome_word o) m) ≤ 64
 ended-most o m h = omega (arith, numbered-most (outcome_word o) m h, outcome-most o)
 
 -- ---- lists of zeros, cut
@@ -35,22 +37,14 @@ fixpoint_cut d k j r q p xs m ys e f w =
     (subst (λ (l : List ℕ). Wrote (fixpoint_text d (take r (zeros 4096)) l l p) xs m ys) (cut_zeros q j 65536 f) w)
 
 -- ---- a refusal, or the models and the line of the outcome
-no_refusal : (o : Outcome) → ((n : ℕ) → o ≡ outcome.Refused n → ⊥) → (t : List ℕ) → unless_ended o t ≡ t
-unfolding unless_ended unless_refused
-no_refusal outcome.Complete h t = refl
-no_refusal outcome.Full h t = refl
-no_refusal outcome.Spent h t = refl
-no_refusal (outcome.Refused n) h t = absurd (h n refl)
-
-module _ (p : Program) (ws : List ℕ) (o : Outcome) (m : ℕ) (xs : List ℕ) (r : ℕ) (ys : List ℕ) where
-  pub fixed_refused_lem : (n : ℕ) → o ≡ outcome.Refused n → Wrote (refused_line n) xs r ys → Wrote (fixed_text p ws o m) xs r ys
+module _ (p : Program) (ws : List ℕ) (o : Result Outcome Refusal) (m : ℕ) (xs : List ℕ) (r : ℕ) (ys : List ℕ) where
+  pub fixed_refused_lem : (q : Refusal) → o ≡ Err q → Wrote (refused_line q) xs r ys → Wrote (fixed_text p ws o m) xs r ys
   unfolding fixed_text unless_ended unless_refused
-  fixed_refused_lem n e h = rw e h
+  fixed_refused_lem q e h = rw e h
 
-  -- in the arm of the outcomes that are no refusal
-  pub fixed-ended : ((n : ℕ) → o ≡ outcome.Refused n → ⊥) → Wrote (listing p ws ++ numbered (outcome_word o) m) xs r ys → Wrote (fixed_text p ws o m) xs r ys
-  unfolding fixed_text
-  fixed-ended t h = rw (no_refusal o t (listing p ws ++ numbered (outcome_word o) m)) h
+  pub fixed-ended : (u : Outcome) → o ≡ Ok u → Wrote (listing p ws ++ numbered (outcome_word o) m) xs r ys → Wrote (fixed_text p ws o m) xs r ys
+  unfolding fixed_text unless_ended unless_refused
+  fixed-ended u e h = rw e (rw e at h)
 
 -- ---- the lent slices
 overwritten_long : (l ws : List ℕ) → length (overwrite l ws) ≡ length l
@@ -62,7 +56,7 @@ module _ (p : Program) (d : ℕ) (l w v : List ℕ) (a : FixpointAnswer) (ms w' 
   unfolding fixed.answer_of fixed.listed fixed.refused
   fixed-places = rw s.says (go (eqb (fixed.refusal p d (room_of w v)) 0))
     where
-      go : (b : Bool) → (cond b (fixed.listed (length (fixed.found p d)) (length l)) (fixed.refused (fixed.refusal p d (room_of w v)))).written ≤ length l
+      go : (b : Bool) → (cond b (fixed.listed (length (fixed.found p d)) (length l)) (fixed.refused (refusal_of (fixed.refusal p d (room_of w v))))).written ≤ length l
       go true = let q : min (length (fixed.found p d)) (length l) ≤ length l = omega arith in q
       go false = let q : 0 ≤ length l = omega arith in q
 

@@ -8,10 +8,16 @@ ghost use Rattle.listings.specs.Listing.{listing};
 ghost use Rattle.printing.specs.Ready.{ReadyToList};
 ghost use Rattle.say_fixed.specs.Texts.{fixed_text};
 
-use program::{Outcome, Program};
+use program::{Outcome, Program, Refusal};
 
 // The models, and the line of an outcome with the models written.
-fn put_ended(p: Program, words: &[u32], outcome: Outcome, m: usize, out: &mut [u8]) -> usize
+fn put_ended(
+    p: Program,
+    words: &[u32],
+    outcome: Result<Outcome, Refusal>,
+    m: usize,
+    out: &mut [u8],
+) -> usize
     requires { ReadyToList p words.now out.old }
     ensures { Wrote (listing p words.now ++ numbered (outcome_word outcome) m) out.old result out.new }
 {
@@ -21,12 +27,18 @@ fn put_ended(p: Program, words: &[u32], outcome: Outcome, m: usize, out: &mut [u
 }
 
 // The line of a refusal, or the models and the line of the outcome.
-pub fn put_fixed(p: Program, words: &[u32], outcome: Outcome, m: usize, out: &mut [u8]) -> usize
+pub fn put_fixed(
+    p: Program,
+    words: &[u32],
+    outcome: Result<Outcome, Refusal>,
+    m: usize,
+    out: &mut [u8],
+) -> usize
     requires { ReadyToList p words.now out.old }
     ensures { Wrote (fixed_text p words.now outcome m) out.old result out.new }
 {
     match outcome {
-        Outcome::Refused(number) => printing::put_refused(number, out),
-        _ => put_ended(p, words, outcome, m, out),
+        Err(refusal) => printing::put_refused(refusal, out),
+        Ok(_) => put_ended(p, words, outcome, m, out),
     }
 }

@@ -8,7 +8,6 @@ ghost use Rattle.held.specs.Clearing.{keep_of};
 ghost use Rattle.printing.specs.Ready.{Ready};
 ghost use Rattle.holding.specs.Texts.{keep_text};
 
-use held::HoldStatus;
 use program::Program;
 
 // The text of the table with its held clause kept.
@@ -16,9 +15,7 @@ fn put_kept(p: Program, out: &mut [u8]) -> usize
     requires { Ready p out.old }
     ensures { Wrote (render (keep_of p).program) out.old result out.new }
 {
-    let kept = clear::keep(p);
-    let q = kept.program;
-    say_written::put_written(q, out)
+    say_written::put_written(clear::keep(p).program, out)
 }
 
 // The book with the clause held and then kept.
@@ -35,11 +32,8 @@ pub fn put_keep(
     ensures { Wrote (keep_text (clause_of head body naf) first last p) out.old result out.new }
 {
     let held = hold::hold(p, head, body, naf, first, last);
-    let status = held.status;
-    let q = held.program;
-    match status {
-        HoldStatus::New => put_kept(q, out),
-        HoldStatus::Equal => put_kept(q, out),
-        HoldStatus::Refused(number) => printing::put_refused(number, out),
+    match held.status {
+        Ok(_) => put_kept(held.program, out),
+        Err(refusal) => printing::put_refused(refusal, out),
     }
 }

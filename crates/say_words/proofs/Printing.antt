@@ -1,4 +1,5 @@
 -- The ways that a word comes to its text: the book is refused or read, and the command is one of the seven. Assumes nothing.
+use Rattle.std.specs.Prelude.{Ok, Err}
 use mathlib.Core.Path.{◌≡◌, refl, sym, ap, ◌∙◌}
 use mathlib.Core.List.{List, []}
 use Prim.Native.Nat.{ℕ, ◌≤◌, ◌<◌}
@@ -9,7 +10,7 @@ use borrow.Author.Tests.{le-leb, lt-leb}
 use Rattle.lists.specs.Bytes.{Wrote}
 use Rattle.program.specs.declared.Program.{Program}
 use Rattle.program.specs.Clauses.{clause_of}
-use Rattle.program.specs.declared.Verdict.TheVariants as verdict
+use Rattle.program.specs.declared.Refusal.{Refusal}
 use Rattle.text.specs.declared.Read.{Read}
 use Rattle.text.specs.Reading.{read_of}
 use Rattle.text.specs.Render.{render}
@@ -44,17 +45,17 @@ module _ (t xs : List ℕ) where
 
 -- ---- the text was read
 module _ (b : List ℕ) (d : Read) (e : d ≡ read_of b) (xs : List ℕ) (h : most_bytes ≤ length xs) where
-  pub read-ready : d.verdict ≡ verdict.Accepted → Ready d.program xs
+  pub read-ready : d.verdict ≡ Ok tt → Ready d.program xs
   read-ready t = record { accepted = rw e (read_valid b (ap (λ (x : Read). x.verdict) (sym e) ∙ t)); room = h }
 
   module _ (t : ℕ) (k : Command) (ns bs : List ℕ) (r : ℕ) (ys : List ℕ) where
-    pub run_read : d.verdict ≡ verdict.Accepted → Wrote (text_of t k ns bs d.program) xs r ys → Prints (output t k ns bs b) xs r ys
+    pub run_read : d.verdict ≡ Ok tt → Wrote (text_of t k ns bs d.program) xs r ys → Prints (output t k ns bs b) xs r ys
     unfolding output printed unless_refused
     run_read a w = prints (output t k ns bs b) xs r ys h (rw (← e, a) w)
 
-    pub run_refused : (n : ℕ) → d.verdict ≡ verdict.Refused n → Wrote (refused_line n) xs r ys → Prints (output t k ns bs b) xs r ys
+    pub run_refused : (q : Refusal) → d.verdict ≡ Err q → Wrote (refused_line q) xs r ys → Prints (output t k ns bs b) xs r ys
     unfolding output printed unless_refused
-    run_refused n a w = prints (output t k ns bs b) xs r ys h (rw (← e, a) w)
+    run_refused q a w = prints (output t k ns bs b) xs r ys h (rw (← e, a) w)
 
 -- ---- each command has its text
 module _ (t : ℕ) (k : Command) (ns bs : List ℕ) (p : Program) (xs : List ℕ) (r : ℕ) (ys : List ℕ) where

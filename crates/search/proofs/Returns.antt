@@ -1,4 +1,6 @@
 -- The ways that the search of a table returns, and what the run asks of its table. Assumes nothing.
+use Rattle.program.specs.declared.Refusal.TheVariants.{InvalidProgram}
+use Rattle.std.specs.Prelude.{Err}
 use mathlib.Core.Path.{◌≡◌, sym, ap, ◌∙◌}
 use mathlib.Core.Bool.{Bool, true, false, not}
 use mathlib.Core.List.{List}
@@ -11,7 +13,6 @@ use Rattle.program.specs.Clauses.{clause_at, standing}
 use Rattle.program.specs.Days.{RowsOfDay}
 use Rattle.program.specs.Only.{only_of}
 use Rattle.program.specs.Valid.{valid}
-use Rattle.program.specs.declared.Outcome.TheVariants.{Refused}
 use Rattle.program.proofs.Validity.{valid_names, valid_clauses}
 use Rattle.program.proofs.Chosen.{only_valid}
 use Rattle.program.proofs.Days.{day_table}
@@ -25,7 +26,7 @@ use Rattle.leaf.specs.Packed.{packed_at, Packs}
 use Rattle.leaf.proofs.Packing.{packed_same}
 
 module _ (p : Program) (d A : ℕ) (l : List ℕ) where
-  pub no_table : {v : Bool} {a : SearchAnswer} → v ≡ valid p → not v ≡ true → a ≡ answer (Refused 9) 0 0 → Searches p d A l a l
+  pub no_table : {v : Bool} {a : SearchAnswer} → v ≡ valid p → not v ≡ true → a ≡ answer (Err InvalidProgram) 0 0 → Searches p d A l a l
   no_table {v} e h q = let r = refused p d A l (sym e ∙ not-true v h) in record { says = q ∙ sym r.0; lists = sym r.1 }
 
 -- ---- the table of the day's clauses

@@ -7,7 +7,7 @@ ghost use Rattle.program.specs.Valid.{valid};
 ghost use Rattle.tree.specs.NodeTest.{dead};
 ghost use Rattle.tree.specs.Answer.{Searches, Ends};
 
-use program::{Outcome, Program};
+use program::{Program, Refusal};
 use tree::SearchAnswer;
 
 // The search of a valid table all of whose clauses count, by value: they are packed and put in columns once, and lent from here on.
@@ -28,7 +28,7 @@ pub fn search(p: Program, day: u16, node_limit: u64, models: &mut [u32]) -> Sear
     ensures { Searches p day node_limit models.old result models.new }
 {
     if !validity::is_valid(p) {
-        return search_models::ended(Outcome::Refused(program::INVALID_PROGRAM), 0, 0);
+        return search_models::ended(Err(Refusal::InvalidProgram), 0, 0);
     }
     let rows = table_days::day_rows(p, day);
     search_table(table_only::only(p, rows), node_limit, models)

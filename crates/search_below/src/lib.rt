@@ -46,11 +46,10 @@ pub fn next_bit(k: usize) -> u32
 fn tick(node_limit: u64, visited: &mut u64) -> bool
     ensures { Ticked node_limit visited.old result visited.new }
 {
-    let v = *visited;
-    if v >= node_limit {
+    if *visited >= node_limit {
         return true;
     }
-    *visited = v + 1;
+    *visited += 1;
     false
 }
 
@@ -81,10 +80,11 @@ pub fn seek(
         return seek::NONE;
     }
     if k == 0 {
-        if search_leaf::leaf_stable(table, columns, count, play, w) {
-            return w;
-        }
-        return seek::NONE;
+        return if search_leaf::leaf_stable(table, columns, count, play, w) {
+            w
+        } else {
+            seek::NONE
+        };
     }
     let bit = next_bit(k);
     let literal = k - 1;

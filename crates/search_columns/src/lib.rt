@@ -10,15 +10,11 @@ fn column(words: &[u32; program::MOST_CLAUSES], count: usize, literal: usize) ->
     requires { (count ≤ 64) × (literal < 24) }
     ensures { Column words.now count literal result }
 {
-    let mut rows: u64 = 0;
-    let mut k: usize = 0;
-    while k < count {
-        let here = k;
-        k += 1;
-        if (words[here] >> literal) & 1 == 0 {
-            continue;
+    let mut rows = 0;
+    for k in 0..count {
+        if (words[k] >> literal) & 1 != 0 {
+            rows |= 1 << k;
         }
-        rows = rows | (1 << here);
     }
     rows
 }
@@ -34,12 +30,10 @@ pub fn columns<'a>(
     ensures { Columns (clause_at heads.now bodies.now nafs.now) count result }
 {
     let mut columns = [0u64; columns::WORDS];
-    let mut literal: usize = 0;
-    while literal < columns::LITERALS {
+    for literal in 0..columns::LITERALS {
         columns[literal] = column(heads, count, literal);
         columns[columns::BODIES + literal] = column(bodies, count, literal);
         columns[columns::NAFS + literal] = column(nafs, count, literal);
-        literal += 1;
     }
     columns
 }

@@ -39,21 +39,18 @@ pub fn first_leaf(
         return seek::NONE;
     }
     let mut next = from;
-    let mut k: usize = 0;
-    while k < top {
-        let here = k;
-        k += 1;
-        if (next >> here) & 1 == 0 {
+    for k in 0..top {
+        if (next >> k) & 1 == 0 {
             continue;
         }
-        let bit = search_below::next_bit(k);
+        let bit = search_below::next_bit(k + 1);
         let found = search_below::seek_second(
             table,
             columns,
             count,
             root,
             top,
-            here,
+            k,
             next - bit,
             node_limit,
             visited,
@@ -61,7 +58,7 @@ pub fn first_leaf(
         if found != seek::NONE {
             return found;
         }
-        next = next + bit;
+        next += bit;
     }
     seek::NONE
 }

@@ -15,7 +15,7 @@ fn highest(x: u32) -> u32
     requires { 0 < x }
     ensures { Highest x (2 ^ result) }
 {
-    31 - u32::leading_zeros(x)
+    31 - x.leading_zeros()
 }
 
 // Whether a proper subset of `by` satisfies the reduct by it, among those that hold `held` and of the rest only bits of `undecided`.
@@ -45,10 +45,8 @@ fn has_smaller(
     let top = 1 << literal;
     let rest = undecided - top;
     let mentioned = search_columns::mentions(columns, literal as usize) & rows;
-    if has_smaller(table, columns, count, rows, mentioned, by, held, rest) {
-        return true;
-    }
-    has_smaller(table, columns, count, rows, mentioned, by, held | top, rest)
+    has_smaller(table, columns, count, rows, mentioned, by, held, rest)
+        || has_smaller(table, columns, count, rows, mentioned, by, held | top, rest)
 }
 
 // Whether a word that satisfies its reduct is p-stable: no smaller subset satisfies the reduct. `rows` are those in play at it.

@@ -1,4 +1,5 @@
 -- The loop of the search: each turn seeks the next p-stable leaf. Assumes nothing.
+use Rattle.std.specs.Prelude.{Ok}
 use mathlib.Core.Path.{◌≡◌, refl, sym, ap, ◌∙◌}
 use mathlib.Core.Bool.{true}
 use mathlib.Core.List.{List}
@@ -47,15 +48,15 @@ module _ (D : Dead) (P : List Clause) (A n : ℕ) (l₀ : List ℕ) where
     small : All (λ u. u < 2 ^ 24) (from_word x (tree D n))
     small = all-from_word _ x (tree D n) (small_words D (2 * n) 0 (placed_root n few))
 
-    pub turn_none : {a : SearchAnswer} → r ≡ no_leaf → a ≡ answer Complete m v' → Ends D P n A l₀ a l
-    turn_none h = ends (answer Complete m v') (runs_none (is_stable_leaf D P) A m l (from_word x (tree D n)) v small (sym s.word ∙ h) ∙ rw (← s.nodes))
+    pub turn_none : {a : SearchAnswer} → r ≡ no_leaf → a ≡ answer (Ok Complete) m v' → Ends D P n A l₀ a l
+    turn_none h = ends (answer (Ok Complete) m v') (runs_none (is_stable_leaf D P) A m l (from_word x (tree D n)) v small (sym s.word ∙ h) ∙ rw (← s.nodes))
 
-    pub turn_spent : {a : SearchAnswer} → r ≡ spent → a ≡ answer Spent m v' → Ends D P n A l₀ a l
-    turn_spent h = ends (answer Spent m v') (runs-spent (is_stable_leaf D P) A m l (from_word x (tree D n)) v small (sym s.word ∙ h) ∙ rw (← s.nodes))
+    pub turn_spent : {a : SearchAnswer} → r ≡ spent → a ≡ answer (Ok Spent) m v' → Ends D P n A l₀ a l
+    turn_spent h = ends (answer (Ok Spent) m v') (runs-spent (is_stable_leaf D P) A m l (from_word x (tree D n)) v small (sym s.word ∙ h) ∙ rw (← s.nodes))
 
     module _ (p : r ≡ no_leaf → ⊥) (q : r ≡ spent → ⊥) where
-      pub turn_full : {a : SearchAnswer} → length l ≤ m → a ≡ answer Full m v' → Ends D P n A l₀ a l
-      turn_full h = ends (answer Full m v') (runs-full (is_stable_leaf D P) A m l (from_word x (tree D n)) v (λ e. p (s.word ∙ e)) (λ e. q (s.word ∙ e)) h ∙ rw (← s.nodes))
+      pub turn_full : {a : SearchAnswer} → length l ≤ m → a ≡ answer (Ok Full) m v' → Ends D P n A l₀ a l
+      turn_full h = ends (answer (Ok Full) m v') (runs-full (is_stable_leaf D P) A m l (from_word x (tree D n)) v (λ e. p (s.word ∙ e)) (λ e. q (s.word ∙ e)) h ∙ rw (← s.nodes))
 
       -- what is so of every word from x on is so of the one that is found, and it is p-stable
       found : (t : ℕ → Type 0) → All t (from_word x (tree D n)) → t r × (is_stable P r ≡ true)

@@ -9,17 +9,17 @@ ghost use Rattle.columns.specs.Columns.{Columns};
 ghost use Rattle.columns.specs.Play.{InPlay};
 ghost use Rattle.leaf.specs.Packed.{packed_at};
 
-use program::Outcome;
+use program::{Outcome, Refusal};
 use tree::SearchAnswer;
 
 // What a search answers.
-pub fn ended(outcome: Outcome, written: usize, visited: u64) -> SearchAnswer
+pub fn ended(outcome: Result<Outcome, Refusal>, written: usize, visited: u64) -> SearchAnswer
     ensures { result ≡ answer outcome written visited }
 {
     SearchAnswer {
-        outcome: outcome,
-        written: written,
-        visited: visited,
+        outcome,
+        written,
+        visited,
     }
 }
 
@@ -41,6 +41,7 @@ pub fn search_clauses(
     let mut written: usize = 0;
     let mut visited: u64 = 0;
     let mut from: u32 = 0;
+    // A `loop`: each turn goes on behind the model that was found, and three ways lead out.
     loop {
         let w = search_from::first_leaf(
             table,
@@ -53,13 +54,13 @@ pub fn search_clauses(
             &mut visited,
         );
         if w == seek::NONE {
-            return ended(Outcome::Complete, written, visited);
+            return ended(Ok(Outcome::Complete), written, visited);
         }
         if w == seek::SPENT {
-            return ended(Outcome::Spent, written, visited);
+            return ended(Ok(Outcome::Spent), written, visited);
         }
         if written >= models.len() {
-            return ended(Outcome::Full, written, visited);
+            return ended(Ok(Outcome::Full), written, visited);
         }
         models[written] = w;
         written += 1;

@@ -16,7 +16,7 @@ fn is_settled(k: usize, w: u32, mentioned: u64, asked: u64) -> bool
     requires { k ≤ 24 }
     ensures { result ≡ not (bit w k) && eqb asked mentioned }
 {
-    ((w >> k) & 1 == 0) & (asked == mentioned)
+    (w >> k) & 1 == 0 && asked == mentioned
 }
 
 // What the node is. Asked for a violation are the rows in play that mention the literal just decided, and support is looked for only

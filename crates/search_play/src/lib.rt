@@ -12,7 +12,7 @@ ghost use Rattle.seek.specs.Seek.{OnPath, PlaysAt};
 fn is_in_play(body: u32, naf: u32, w: u32, reach: u32) -> bool
     ensures { result ≡ inside body reach && apart naf w }
 {
-    (body & reach == body) & (naf & w == 0)
+    body & reach == body && naf & w == 0
 }
 
 // The rows in play where `w` is decided in and `reach` not decided out.
@@ -20,20 +20,11 @@ pub fn rows_in_play(table: &[u32; leaf::WORDS], count: usize, w: u32, reach: u32
     requires { count ≤ 64 }
     ensures { InPlay (packed_at table.now) count reach w result }
 {
-    let mut rows: u64 = 0;
-    let mut i: usize = 0;
-    while i < count {
-        let here = i;
-        i += 1;
-        if !is_in_play(
-            table[leaf::BODIES + here],
-            table[leaf::NAFS + here],
-            w,
-            reach,
-        ) {
-            continue;
+    let mut rows = 0;
+    for i in 0..count {
+        if is_in_play(table[leaf::BODIES + i], table[leaf::NAFS + i], w, reach) {
+            rows |= 1 << i;
         }
-        rows = rows | (1 << here);
     }
     rows
 }
@@ -60,14 +51,13 @@ pub fn play_at(columns: &[u64; columns::WORDS], root: u64, top: usize, k: usize,
     ensures { PlaysAt columns.now root top k w result }
 {
     let mut play = root;
-    let mut literal = top;
-    while literal > k {
-        literal -= 1;
-        if (w >> literal) & 1 == 0 {
-            play = play - (play & columns[columns::BODIES + literal]);
+    for literal in (k..top).rev() {
+        let lost = if (w >> literal) & 1 == 0 {
+            columns[columns::BODIES + literal]
         } else {
-            play = play - (play & columns[columns::NAFS + literal]);
-        }
+            columns[columns::NAFS + literal]
+        };
+        play -= play & lost;
     }
     play
 }

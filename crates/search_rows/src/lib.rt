@@ -17,13 +17,9 @@ pub fn pack<'a>(
     ensures { Packs heads.now bodies.now nafs.now result }
 {
     let mut table = [0u32; leaf::WORDS];
-    let mut i: usize = 0;
-    while i < program::MOST_CLAUSES {
-        table[i] = heads[i];
-        table[leaf::BODIES + i] = bodies[i];
-        table[leaf::NAFS + i] = nafs[i];
-        i += 1;
-    }
+    table[..leaf::BODIES].copy_from_slice(heads);
+    table[leaf::BODIES..leaf::NAFS].copy_from_slice(bodies);
+    table[leaf::NAFS..].copy_from_slice(nafs);
     table
 }
 
@@ -35,13 +31,12 @@ pub fn rules_out(head: u32, body: u32, naf: u32, by: u32, w: u32, reach: u32) ->
     ((body - (body & w)) | (naf & by) | (head & reach)) == 0
 }
 
-// Whether that is so of some row of a set: trailing zeros step from row to row.
+// Whether that is so of some row of a set: the lowest row is asked first.
 pub fn some_rules_out(table: &[u32; leaf::WORDS], rows: u64, by: u32, w: u32, reach: u32) -> bool
     ensures { result ≡ any_of (λ i. rules_out by w reach (packed_at table.now i)) (members rows) }
 {
-    let mut left = rows;
-    while left != 0 {
-        let i = literals::lowest_place(left);
+    for row in literals::members(rows) {
+        let i = row as usize;
         if rules_out(
             table[i],
             table[leaf::BODIES + i],
@@ -52,7 +47,6 @@ pub fn some_rules_out(table: &[u32; leaf::WORDS], rows: u64, by: u32, w: u32, re
         ) {
             return true;
         }
-        left = left & (left - 1);
     }
     false
 }

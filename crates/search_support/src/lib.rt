@@ -16,20 +16,18 @@ ghost use Rattle.node.specs.Node.{Placed, supports_alone};
 fn supports(head: u32, body: u32, w: u32, bit: u32) -> bool
     ensures { result ≡ supports_alone w bit (clause_of head body 0) }
 {
-    (head & w == bit) & (body & bit == 0)
+    head & w == bit && body & bit == 0
 }
 
 // Whether some row of a set does.
 fn some_supports(table: &[u32; leaf::WORDS], rows: u64, w: u32, bit: u32) -> bool
     ensures { result ≡ any_of (λ i. supports_alone w bit (packed_at table.now i)) (members rows) }
 {
-    let mut left = rows;
-    while left != 0 {
-        let i = literals::lowest_place(left);
+    for row in literals::members(rows) {
+        let i = row as usize;
         if supports(table[i], table[leaf::BODIES + i], w, bit) {
             return true;
         }
-        left = left & (left - 1);
     }
     false
 }
@@ -49,16 +47,13 @@ pub fn some_unsupported(
     requires in_play { InPlay (packed_at table.now) count (possible k w) w play }
     ensures { result ≡ unsupported (tabulate (packed_at table.now) count) k w }
 {
-    let mut left = w as u64;
     let mut rows = play;
-    while left != 0 {
-        let literal = literals::lowest_place(left);
-        let asked = columns[literal] & rows;
+    for literal in literals::members(u64::from(w)) {
+        let asked = columns[literal as usize] & rows;
         if !some_supports(table, asked, w, 1 << literal) {
             return true;
         }
-        left = left & (left - 1);
-        rows = rows - asked;
+        rows -= asked;
     }
     false
 }

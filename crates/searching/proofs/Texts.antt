@@ -1,4 +1,5 @@
 -- What `search` prints: the room for it, and that it is the text of the call's answer. Assumes nothing.
+use Rattle.std.specs.Prelude.{Ok}
 use mathlib.Core.Path.{◌≡◌, refl, sym, ap, ◌∙◌, subst}
 use mathlib.Core.Bool.{Bool, true, false, cond}
 use mathlib.Core.List.{List, ◌++◌}
@@ -29,7 +30,7 @@ unfolding run_answer overfull
 run_fits hit ns A L = go (length (hits hit (take A ns))) (ltb L (length (hits hit (take A ns)))) refl (ltb A (length ns))
   where
     go : (f : ℕ) (b : Bool) → ltb L f ≡ b → (c : Bool)
-        → (cond b (answer outcome.Full L (full_at hit ns L)) (cond c (answer outcome.Spent f A) (answer outcome.Complete f (length ns)))).written ≤ L
+        → (cond b (answer (Ok outcome.Full) L (full_at hit ns L)) (cond c (answer (Ok outcome.Spent) f A) (answer (Ok outcome.Complete) f (length ns)))).written ≤ L
     go f true e c = let q : L ≤ L = omega arith in q
     go f false e true = ltb-false _ _ e
     go f false e false = ltb-false _ _ e

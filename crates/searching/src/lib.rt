@@ -10,13 +10,13 @@ ghost use Rattle.printing.specs.Texts.{lent_list};
 ghost use Rattle.searching.specs.Texts.{search_text};
 
 use printing::MOST_PLACES;
-use program::{Outcome, Program};
+use program::{Outcome, Program, Refusal};
 
 // The models, and the line of an outcome with the models written and the nodes visited.
 fn put_searched(
     p: Program,
     words: &[u32],
-    outcome: Outcome,
+    outcome: Result<Outcome, Refusal>,
     m: usize,
     v: u64,
     out: &mut [u8],

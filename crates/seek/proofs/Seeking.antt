@@ -1,4 +1,5 @@
 -- From hit to hit: the first one from a word on, and how a run goes on behind it. Assumes nothing.
+use Rattle.std.specs.Prelude.{Ok}
 use mathlib.Core.Path.{◌≡◌, refl, sym, ap, ◌∙◌}
 use mathlib.Core.Bool.{Bool, true, false, cond}
 use mathlib.Core.List.{List, [], ◌∷◌, ◌++◌}
@@ -182,28 +183,28 @@ module _ (hit : Node → Bool) (A n : ℕ) (l : List ℕ) where
       go true false p q e r = ap (runs hit A xs) (step_miss hit A x n v l (ltb-true _ _ p) q) ∙ r e
       go false c p q e r = absurd (omega arith)
 
-  pub runs-spent : (xs : List Node) (v : ℕ) → All (λ u. u < 2 ^ 24) xs → sought hit A xs v ≡ spent → runs hit A xs (on n v l) ≡ state (answer Spent n (after hit A xs v)) l
+  pub runs-spent : (xs : List Node) (v : ℕ) → All (λ u. u < 2 ^ 24) xs → sought hit A xs v ≡ spent → runs hit A xs (on n v l) ≡ state (answer (Ok Spent) n (after hit A xs v)) l
   unfolding runs sought after All
   runs-spent [] v a e = absurd (omega arith)
   runs-spent (x ∷ xs) v a e = go (ltb v A) (hit x) refl refl e (runs-spent xs (v + 1) a.1)
     where
       go : (b c : Bool) → ltb v A ≡ b → hit x ≡ c → cond b (cond c x.word (sought hit A xs (v + 1))) spent ≡ spent
-          → (sought hit A xs (v + 1) ≡ spent → runs hit A xs (on n (v + 1) l) ≡ state (answer Spent n (after hit A xs (v + 1))) l)
-          → runs hit A xs (step hit A x (on n v l)) ≡ state (answer Spent n (cond b (cond c (v + 1) (after hit A xs (v + 1))) v)) l
+          → (sought hit A xs (v + 1) ≡ spent → runs hit A xs (on n (v + 1) l) ≡ state (answer (Ok Spent) n (after hit A xs (v + 1))) l)
+          → runs hit A xs (step hit A x (on n v l)) ≡ state (answer (Ok Spent) n (cond b (cond c (v + 1) (after hit A xs (v + 1))) v)) l
       go true true p q e r = absurd (omega (arith, a.0))
       go true false p q e r = ap (runs hit A xs) (step_miss hit A x n v l (ltb-true _ _ p) q) ∙ r e
-      go false c p q e r = ap (runs hit A xs) (step_spent hit A x n v l (ltb-false _ _ p)) ∙ runs-ended hit A xs (state (answer Spent n v) l) refl
+      go false c p q e r = ap (runs hit A xs) (step_spent hit A x n v l (ltb-false _ _ p)) ∙ runs-ended hit A xs (state (answer (Ok Spent) n v) l) refl
 
   pub runs-full : (xs : List Node) (v : ℕ) → (sought hit A xs v ≡ no_leaf → ⊥) → (sought hit A xs v ≡ spent → ⊥) → length l ≤ n
-      → runs hit A xs (on n v l) ≡ state (answer Full n (after hit A xs v)) l
+      → runs hit A xs (on n v l) ≡ state (answer (Ok Full) n (after hit A xs v)) l
   unfolding runs sought after
   runs-full [] v e f h = absurd (e refl)
   runs-full (x ∷ xs) v e f h = go (ltb v A) (hit x) refl refl e f (λ e f. runs-full xs (v + 1) e f h)
     where
       go : (b c : Bool) → ltb v A ≡ b → hit x ≡ c → (cond b (cond c x.word (sought hit A xs (v + 1))) spent ≡ no_leaf → ⊥) → (cond b (cond c x.word (sought hit A xs (v + 1))) spent ≡ spent → ⊥)
-          → ((sought hit A xs (v + 1) ≡ no_leaf → ⊥) → (sought hit A xs (v + 1) ≡ spent → ⊥) → runs hit A xs (on n (v + 1) l) ≡ state (answer Full n (after hit A xs (v + 1))) l)
-          → runs hit A xs (step hit A x (on n v l)) ≡ state (answer Full n (cond b (cond c (v + 1) (after hit A xs (v + 1))) v)) l
-      go true true p q e f r = ap (runs hit A xs) (step_full hit A x n v l (ltb-true _ _ p) q h) ∙ runs-ended hit A xs (state (answer Full n (v + 1)) l) refl
+          → ((sought hit A xs (v + 1) ≡ no_leaf → ⊥) → (sought hit A xs (v + 1) ≡ spent → ⊥) → runs hit A xs (on n (v + 1) l) ≡ state (answer (Ok Full) n (after hit A xs (v + 1))) l)
+          → runs hit A xs (step hit A x (on n v l)) ≡ state (answer (Ok Full) n (cond b (cond c (v + 1) (after hit A xs (v + 1))) v)) l
+      go true true p q e f r = ap (runs hit A xs) (step_full hit A x n v l (ltb-true _ _ p) q h) ∙ runs-ended hit A xs (state (answer (Ok Full) n (v + 1)) l) refl
       go true false p q e f r = ap (runs hit A xs) (step_miss hit A x n v l (ltb-true _ _ p) q) ∙ r e f
       go false c p q e f r = absurd (f refl)
 

@@ -1,5 +1,9 @@
 -- What the check answers is so. Assumes nothing.
-use mathlib.Core.Path.{◌≡◌, refl, sym, ◌∙◌, subst}
+use Rattle.program.specs.declared.Refusal.TheVariants.{InvalidProgram, OutsideWord}
+use Rattle.program.specs.declared.Refusal.{Refusal}
+use Rattle.program.proofs.Lowest.{rises, numbers_known, number_lowest}
+use Rattle.std.specs.Prelude.{Result, Ok, Err}
+use mathlib.Core.Path.{◌≡◌, refl, sym, ◌∙◌, subst, ap}
 use mathlib.Core.Logic.{◌↔◌}
 use mathlib.Core.Bool.{Bool, true, false, cond, not, ◌&&◌}
 use mathlib.Core.List.{List}
@@ -18,12 +22,12 @@ use Rattle.program.specs.Clauses.{Clause, Row, rows, no_row}
 use Rattle.program.specs.Days.{of_day, clauses}
 use Rattle.program.specs.Values.{is_word}
 use Rattle.program.specs.Valid.{valid}
-use Rattle.program.specs.Refusals.{lowest}
+use Rattle.program.specs.Refusals.{lowest, number, refusal_of, numbered}
 use Rattle.stable.specs.declared.Checked.{Checked}
-use Rattle.stable.specs.declared.Checked.TheVariants.{Refused, Violated, Smaller, Stable}
+use Rattle.stable.specs.declared.Checked.TheVariants.{Violated, Smaller, Stable}
 use Rattle.semantics.specs.Definitions.{PStable}
 use Rattle.semantics.specs.Interpretations.{rules_of, satisfies, reduct, is_model, smaller, least_smaller, is_stable}
-use Rattle.stable.specs.Check.{first_violated, verdict, refusal, answer_of, FirstViolated, LeastSmaller, Says, Checks}
+use Rattle.stable.specs.Check.{first_violated, verdict, refusal, answer_of, FirstViolated, LeastSmaller, Says, Checks, refusals}
 use Rattle.stable.proofs.Readings.{Satisfies_satisfies, satisfies_Satisfies, is_model_Model, Model_is_model}
 use Rattle.stable.proofs.Decides.{stable_PStable, PStable_stable}
 use Rattle.stable.proofs.Checking.{counted, model_rows_least}
@@ -89,7 +93,7 @@ module _ (p : Program) (d w : ℕ) where
       let j = eqb-true (least_smaller (clauses p d) w) w b.1 in
       rw (le-ltb (first_violated (of_day p d) (rows p) w) (length (rows p)) (omega arith), le-ltb (least_smaller (clauses p d) w) w (omega arith))
 
-  verdict-says : refusal p w ≡ 0 → Says p d w (verdict (of_day p d) (rows p) (clauses p d) w)
+  verdict-says : refusal p w ≡ 0 → Says p d w (Ok (verdict (of_day p d) (rows p) (clauses p d) w))
   unfolding verdict Says
   verdict-says z = go (ltb (first_violated (of_day p d) (rows p) w) (length (rows p))) (ltb (least_smaller (clauses p d) w) w) refl refl
     where
@@ -97,50 +101,50 @@ module _ (p : Program) (d w : ℕ) where
       model e = subst (λ (P : List Clause). is_model (reduct P w) w ≡ true) day_counted (satisfied (of_day p d) (rows p) w (ltb-false _ _ e))
 
       go : (a b : Bool) → ltb (first_violated (of_day p d) (rows p) w) (length (rows p)) ≡ a → ltb (least_smaller (clauses p d) w) w ≡ b
-          → Says p d w (cond a (Violated (first_violated (of_day p d) (rows p) w)) (cond b (Smaller (least_smaller (clauses p d) w)) Stable))
+          → Says p d w (Ok (cond a (Violated (first_violated (of_day p d) (rows p) w)) (cond b (Smaller (least_smaller (clauses p d) w)) Stable)))
       go true b e f = (z, violated_first (of_day p d) (rows p) w (ltb-true _ _ e))
       go false true e f = (z, smaller-least (clauses p d) w (model e) (ltb-true _ _ f))
       go false false e f = (z, stable_PStable (clauses p d) w (stable_none (clauses p d) w (model e) (ltb-false _ _ f)))
 
   pub answer-says : Says p d w (answer_of p d w)
-  unfolding answer_of Says
+  unfolding answer_of Says refusal rises numbers_known numbered
   answer-says = go (eqb (refusal p w) 0) refl
     where
-      go : (b : Bool) → eqb (refusal p w) 0 ≡ b → Says p d w (cond b (verdict (of_day p d) (rows p) (clauses p d) w) (Refused (refusal p w)))
+      go : (b : Bool) → eqb (refusal p w) 0 ≡ b → Says p d w (cond b (Ok (verdict (of_day p d) (rows p) (clauses p d) w)) (Err (refusal_of (refusal p w))))
       go true e = verdict-says (eqb-true _ _ e)
-      go false e = (refl, eqb-false _ _ e)
+      go false e = let k = number_lowest (refusals p w) refl refl (eqb-false _ _ e) in (k, λ z. eqb-false _ _ e (sym k ∙ z))
 
-  pub answered : (r : Checked) → r ≡ answer_of p d w → Checks p d w r
-  answered r e = record { answer = e; says = subst (λ (a : Checked). Says p d w a) (sym e) answer-says }
+  pub answered : (r : Result Checked Refusal) → r ≡ answer_of p d w → Checks p d w r
+  answered r e = record { answer = e; says = subst (λ (a : Result Checked Refusal). Says p d w a) (sym e) answer-says }
 
   -- "every check answers as before" (document 02, U4): two that meet the contract answer alike, however each walks the subsets
-  pub one_answer : (r s : Checked) → Checks p d w r → Checks p d w s → r ≡ s
+  pub one_answer : (r s : Result Checked Refusal) → Checks p d w r → Checks p d w s → r ≡ s
   one_answer r s c e = c.answer ∙ sym e.answer
 
   -- the check says stable exactly when Definition 3.1 does of the clauses of the day
-  pub stable_exactly : refusal p w ≡ 0 → (answer_of p d w ≡ Stable) ↔ PStable (rules_of (clauses p d)) (bit w)
+  pub stable_exactly : refusal p w ≡ 0 → (answer_of p d w ≡ Ok Stable) ↔ PStable (rules_of (clauses p d)) (bit w)
   unfolding Says answer_of
   stable_exactly z = (
-    λ e. (subst (λ (a : Checked). Says p d w a) e answer-says).1,
-    λ s. rw z (stable_verdict (PStable_stable (clauses p d) w s)),
+    λ e. (subst (λ (a : Result Checked Refusal). Says p d w a) e answer-says).1,
+    λ s. rw z (ap Ok (stable_verdict (PStable_stable (clauses p d) w s))),
   )
 
   -- ---- the ways that the call returns
-  pub no_table : {v : Bool} → v ≡ valid p → not v ≡ true → Checks p d w (Refused 9)
-  unfolding answer_of refusal lowest
-  no_table {v} e h = let f : valid p ≡ false = sym e ∙ not-true v h in answered (Refused 9) (rw f)
+  pub no_table : {v : Bool} → v ≡ valid p → not v ≡ true → Checks p d w (Err InvalidProgram)
+  unfolding answer_of refusal lowest numbered
+  no_table {v} e h = let f : valid p ≡ false = sym e ∙ not-true v h in answered (Err InvalidProgram) (rw f)
 
-  pub no_word : {v b : Bool} → v ≡ valid p → not v ≡ false → b ≡ is_word p.atom_count w → not b ≡ true → Checks p d w (Refused 10)
-  unfolding answer_of refusal lowest
+  pub no_word : {v b : Bool} → v ≡ valid p → not v ≡ false → b ≡ is_word p.atom_count w → not b ≡ true → Checks p d w (Err OutsideWord)
+  unfolding answer_of refusal lowest numbered
   no_word {v} {b} e h f k =
       let g : valid p ≡ true = sym e ∙ not-false v h in
       let l : is_word p.atom_count w ≡ false = sym f ∙ not-true b k in
-      answered (Refused 10) (rw (g, l))
+      answered (Err OutsideWord) (rw (g, l))
 
   pub checked : {v b : Bool} {r : Checked} → v ≡ valid p → not v ≡ false → b ≡ is_word p.atom_count w → not b ≡ false
-      → r ≡ verdict (of_day p d) (rows p) (clauses p d) w → Checks p d w r
+      → r ≡ verdict (of_day p d) (rows p) (clauses p d) w → Checks p d w (Ok r)
   unfolding answer_of refusal lowest
   checked {v} {b} {r} e h f k q =
       let g : valid p ≡ true = sym e ∙ not-false v h in
       let l : is_word p.atom_count w ≡ true = sym f ∙ not-false b k in
-      answered r (rw (g, l) q)
+      answered (Ok r) (rw (g, l) (ap Ok q))

@@ -1,5 +1,5 @@
 -- The check of one candidate: its answer for every table and every word, and what each answer says. Assumes nothing.
-use Rattle.std.specs.Prelude.{◌≡◌, Bool, true, cond, not, ◌&&◌, List, [], ◌∷◌, ℕ, ◌<◌, eqb, ltb, length, get_or}
+use Rattle.std.specs.Prelude.{◌≡◌, Bool, true, cond, not, ◌&&◌, List, [], ◌∷◌, ℕ, ◌<◌, eqb, ltb, length, get_or, Result, Ok, Err}
 use Rattle.sets.specs.Words.{Set, ◌⊑◌, bit}
 use Rattle.sets.specs.Least.{least}
 use Rattle.program.specs.declared.Program.{Program}
@@ -7,9 +7,10 @@ use Rattle.program.specs.Clauses.{Clause, Row, rows, no_row}
 use Rattle.program.specs.Days.{of_day, clauses}
 use Rattle.program.specs.Values.{is_word}
 use Rattle.program.specs.Valid.{valid}
-use Rattle.program.specs.Refusals.{lowest}
+use Rattle.program.specs.Refusals.{lowest, number, refusal_of}
+use Rattle.program.specs.declared.Refusal.{Refusal}
 use Rattle.stable.specs.declared.Checked.{Checked}
-use Rattle.stable.specs.declared.Checked.TheVariants.{Refused, Violated, Smaller, Stable}
+use Rattle.stable.specs.declared.Checked.TheVariants.{Violated, Smaller, Stable}
 use Rattle.semantics.specs.Definitions.{Satisfies, Model, Reduct, PStable}
 use Rattle.semantics.specs.Interpretations.{rule_of, rules_of, satisfies, violates, least_smaller}
 
@@ -33,8 +34,8 @@ unfoldable pub refusal : Program → ℕ → ℕ
 refusal p w = lowest (refusals p w)
 
 -- the answer for every table, every day and every word
-unfoldable pub answer_of : Program → ℕ → ℕ → Checked
-answer_of p d w = cond (eqb (refusal p w) 0) (verdict (of_day p d) (rows p) (clauses p d) w) (Refused (refusal p w))
+unfoldable pub answer_of : Program → ℕ → ℕ → Result Checked Refusal
+answer_of p d w = cond (eqb (refusal p w) 0) (Ok (verdict (of_day p d) (rows p) (clauses p d) w)) (Err (refusal_of (refusal p w)))
 
 -- row k of a layout is in the set S, and w violates its clause
 unfoldable pub violated_in : Set ℕ → (ℕ → Clause) → ℕ → ℕ → Bool
@@ -57,13 +58,13 @@ pub record LeastSmaller (P : List Clause) (I j : ℕ) : Type 0 where
   pub satisfied : Model (bit j) (Reduct (rules_of P) (bit I))
   pub first : (i : ℕ) → i < j → bit i ⊑ bit I → Model (bit i) (Reduct (rules_of P) (bit I)) → ⊥
 
-unfoldable pub Says : Program → ℕ → ℕ → Checked → Type 0
-Says p d w (Refused n) = (n ≡ refusal p w) × (n ≡ 0 → ⊥)
-Says p d w (Violated k) = (refusal p w ≡ 0) × FirstViolated (of_day p d) (rows p) w k
-Says p d w (Smaller j) = (refusal p w ≡ 0) × LeastSmaller (clauses p d) w j
-Says p d w Stable = (refusal p w ≡ 0) × PStable (rules_of (clauses p d)) (bit w)
+unfoldable pub Says : Program → ℕ → ℕ → Result Checked Refusal → Type 0
+Says p d w (Err r) = (number r ≡ refusal p w) × (number r ≡ 0 → ⊥)
+Says p d w (Ok (Violated k)) = (refusal p w ≡ 0) × FirstViolated (of_day p d) (rows p) w k
+Says p d w (Ok (Smaller j)) = (refusal p w ≡ 0) × LeastSmaller (clauses p d) w j
+Says p d w (Ok Stable) = (refusal p w ≡ 0) × PStable (rules_of (clauses p d)) (bit w)
 
 -- the contract of the check: the answer outright, and what it says
-pub record Checks (p : Program) (d w : ℕ) (r : Checked) : Type 0 where
+pub record Checks (p : Program) (d w : ℕ) (r : Result Checked Refusal) : Type 0 where
   pub answer : r ≡ answer_of p d w
   pub says : Says p d w r

@@ -4,7 +4,6 @@
 // What the check of a candidate finds.
 #[derive(Clone, Copy)]
 pub enum Checked {
-    Refused(u8),
     Violated(u32),
     Smaller(u32),
     Stable,

@@ -12,12 +12,10 @@ fn emit_b(head: u64, s: u32, hs: &mut [u64], bs: &mut [u64], at: usize) -> usize
     requires { (s + length (literals head) ≤ 64) × Places (for_each one_b s head) hs.old bs.old at }
     ensures { Emits (for_each one_b s head) hs.old bs.old at hs.new bs.new result }
 {
-    let mut rest = head;
     let mut p = s;
     let mut n = at;
-    while rest != 0 {
-        n = fix_push::push_b(literals::lowest(rest), p, hs, bs, n);
-        rest = rest & (rest - 1);
+    for t in literals::members(head) {
+        n = fix_push::push_b(t, p, hs, bs, n);
         p += 1;
     }
     n
@@ -28,11 +26,9 @@ fn emit_c_one(a: u32, naf: u64, hs: &mut [u64], bs: &mut [u64], at: usize) -> us
     requires { (a < 64) × Places (for_each (one_c a) 0 naf) hs.old bs.old at }
     ensures { Emits (for_each (one_c a) 0 naf) hs.old bs.old at hs.new bs.new result }
 {
-    let mut rest = naf;
     let mut n = at;
-    while rest != 0 {
-        n = fix_push::push_c(a, literals::lowest(rest), hs, bs, n);
-        rest = rest & (rest - 1);
+    for t in literals::members(naf) {
+        n = fix_push::push_c(a, t, hs, bs, n);
     }
     n
 }
@@ -42,12 +38,10 @@ fn emit_c(head: u64, s: u32, naf: u64, hs: &mut [u64], bs: &mut [u64], at: usize
     requires { (s + length (literals head) ≤ 64) × Places (for_each (each_c naf) s head) hs.old bs.old at }
     ensures { Emits (for_each (each_c naf) s head) hs.old bs.old at hs.new bs.new result }
 {
-    let mut rest = head;
     let mut p = s;
     let mut n = at;
-    while rest != 0 {
+    for _ in literals::members(head) {
         n = emit_c_one(p, naf, hs, bs, n);
-        rest = rest & (rest - 1);
         p += 1;
     }
     n
@@ -58,12 +52,10 @@ fn emit_d_one(t: u32, p: u32, head: u64, s: u32, hs: &mut [u64], bs: &mut [u64],
     requires { (t < 64) × (p < 64) × (s + length (literals head) ≤ 64) × Places (for_each (clause_d (record { literal = t; at = p })) s head) hs.old bs.old at }
     ensures { Emits (for_each (clause_d (record { literal = t; at = p })) s head) hs.old bs.old at hs.new bs.new result }
 {
-    let mut rest = head;
     let mut q = s;
     let mut n = at;
-    while rest != 0 {
-        n = fix_push::push_d(t, p, literals::lowest(rest), q, hs, bs, n);
-        rest = rest & (rest - 1);
+    for u in literals::members(head) {
+        n = fix_push::push_d(t, p, u, q, hs, bs, n);
         q += 1;
     }
     n
@@ -74,12 +66,10 @@ fn emit_d(head: u64, s: u32, hs: &mut [u64], bs: &mut [u64], at: usize) -> usize
     requires { (s + length (literals head) ≤ 64) × Places (for_each (each_d head s) s head) hs.old bs.old at }
     ensures { Emits (for_each (each_d head s) s head) hs.old bs.old at hs.new bs.new result }
 {
-    let mut rest = head;
     let mut p = s;
     let mut n = at;
-    while rest != 0 {
-        n = emit_d_one(literals::lowest(rest), p, head, s, hs, bs, n);
-        rest = rest & (rest - 1);
+    for t in literals::members(head) {
+        n = emit_d_one(t, p, head, s, hs, bs, n);
         p += 1;
     }
     n

@@ -1,4 +1,5 @@
 -- What the summary says of values and not of bits. Assumes nothing.
+use Rattle.program.proofs.Lowest.{rises, numbers_known, number_lowest}
 use mathlib.Core.Path.{◌≡◌, refl, sym, ap, ◌∙◌}
 use mathlib.Core.Logic.{◌↔◌, ⊎_elim}
 use mathlib.Core.Bool.{Bool, true, false, cond, not, ◌&&◌, ◌||◌}
@@ -17,11 +18,11 @@ use Rattle.lists.specs.Bytes.{one_if}
 use Rattle.lists.proofs.Padding.{filler_at}
 use Rattle.program.specs.declared.Program.{Program}
 use Rattle.program.specs.Values.{is_word, value_in}
-use Rattle.program.specs.Refusals.{lowest}
+use Rattle.program.specs.Refusals.{lowest, refusal_of, refused_by, numbered}
 use Rattle.program.specs.Valid.{valid}
 use Rattle.program.proofs.Values.{value_lt}
 use Rattle.program.proofs.Validity.{valid_names}
-use Rattle.summary.specs.Summary.{occurs, bit_if, occurring_in, is_settled, shown_at, settled_at, refusal, refused_summary, summary_with, summary_of}
+use Rattle.summary.specs.Summary.{occurs, bit_if, occurring_in, is_settled, shown_at, settled_at, refusal, refused_summary, summary_with, summary_of, refusals}
 use Rattle.summary.specs.Meaning.{Occurs, ExactlyOne, Means}
 use Rattle.summary.proofs.Laws.{shown_out}
 
@@ -142,7 +143,7 @@ module _ (p : Program) (words : List ℕ) where
   accepted z = rw (eq-eqb (refusal p words) 0 z)
 
   -- "A refused summary shows no value for any name and none settled."
-  pub refused : (refusal p words ≡ 0 → ⊥) → summary_of p words ≡ refused_summary (refusal p words)
+  pub refused : (refusal p words ≡ 0 → ⊥) → summary_of p words ≡ refused_summary (refusal_of (refusal p words))
   unfolding summary_of
   refused h = rw (ne_eqb (refusal p words) 0 h)
 
@@ -189,6 +190,11 @@ bare_at p words i e =
     (λ f. rw (refused p words f) (filler_at 0 12 i, filler_at false 12 i))
     (same? (refusal p words) 0)
 
+-- a refusal carries its number
+number_carried : (p : Program) (words : List ℕ) → (refusal p words ≡ 0 → ⊥) → refused_by (refused_summary (refusal_of (refusal p words))).verdict ≡ refusal p words
+unfolding refusal refused_summary rises numbers_known numbered
+number_carried p words d = number_lowest (refusals p words) refl refl d
+
 -- ==== the theorem
 
 -- The summary's answer, for every table and every list of words, says what documents 01 and 02 say of it.
@@ -198,7 +204,7 @@ summary_means p words =
     let n = p.atom_count in
     record {
       accepted = λ z. rw (accepted p words z);
-      number = λ f. rw (refused p words f);
+      number = λ f. rw (refused p words f) (number_carried p words f);
       shows = λ z i h v. rw (accepted p words z, shown_at_lem n words i (few_names p words z) h) (shown_exactly words i v);
       settles = λ z i h. rw (accepted p words z, settled_at_lem n words i (few_names p words z) h) (settled_exactly words i);
       empty = λ e i. (bare_at p words i (ap (λ ws. shown_at n ws i) e ∙ empty_at n i)).1;

@@ -1,10 +1,10 @@
 -- What a summary says, over values. Assumes nothing.
-use Rattle.std.specs.Prelude.{◌≡◌, true, false, ◌↔◌, List, [], ℕ, ◌≤◌, ◌<◌, get_or, replicate}
+use Rattle.program.specs.Refusals.{refused_by}
+use Rattle.std.specs.Prelude.{◌≡◌, true, false, ◌↔◌, List, [], ℕ, ◌≤◌, ◌<◌, get_or, replicate, Ok}
 use Rattle.sets.specs.Lists.{Some}
 use Rattle.sets.specs.Words.{bit}
 use Rattle.program.specs.declared.Program.{Program}
 use Rattle.program.specs.Values.{value_in}
-use Rattle.program.specs.declared.Verdict.TheVariants.{Accepted, Refused}
 use Rattle.summary.specs.declared.Summary.{Summary}
 use Rattle.summary.specs.Summary.{refusal}
 
@@ -19,8 +19,8 @@ ExactlyOne i words = ((v : ℕ) × Occurs v i words) × ((u v : ℕ) → Occurs 
 -- what the summary s of the words says
 pub record Means (p : Program) (words : List ℕ) (s : Summary) : Type 0 where
   -- "A refusal carries its number"
-  pub accepted : refusal p words ≡ 0 → s.verdict ≡ Accepted
-  pub number : (refusal p words ≡ 0 → ⊥) → s.verdict ≡ Refused (refusal p words)
+  pub accepted : refusal p words ≡ 0 → s.verdict ≡ Ok tt
+  pub number : (refusal p words ≡ 0 → ⊥) → refused_by s.verdict ≡ refusal p words
   -- "gives for each name which of the four values occur": bit v is set exactly where the value v does
   pub shows : refusal p words ≡ 0 → (i : ℕ) → i < p.atom_count → (v : ℕ) → (bit (get_or s.occurring i 0) v ≡ true) ↔ Occurs v i words
   -- document 02, U1: "a name is settled when exactly one value occurs in the list"

@@ -1,12 +1,12 @@
 -- The summary of a list of words. Assumes nothing.
-use Rattle.std.specs.Prelude.{Bool, true, false, cond, not, ◌&&◌, ◌||◌, List, [], ◌∷◌, ℕ, ◌+◌, eqb, ltb, get_or, replicate}
+use Rattle.std.specs.Prelude.{Bool, true, false, cond, not, ◌&&◌, ◌||◌, List, [], ◌∷◌, ℕ, ◌+◌, eqb, ltb, get_or, replicate, Ok, Err}
 use Rattle.sets.specs.Lists.{every, any_of, tabulate, below}
 use Rattle.sets.specs.Words.{bit}
 use Rattle.program.specs.declared.Program.{Program}
 use Rattle.program.specs.Values.{is_word, value_in}
-use Rattle.program.specs.Refusals.{lowest}
+use Rattle.program.specs.Refusals.{lowest, refusal_of}
 use Rattle.program.specs.Valid.{valid}
-use Rattle.program.specs.declared.Verdict.TheVariants.{Accepted, Refused}
+use Rattle.program.specs.declared.Refusal.{Refusal}
 use Rattle.summary.specs.declared.Summary.{Summary}
 
 -- the value v occurs for the name i in the words
@@ -41,14 +41,14 @@ unfoldable pub refusal : Program → List ℕ → ℕ
 refusal p words = lowest (refusals p words)
 
 -- "A refused summary shows no value for any name and none settled."
-unfoldable pub refused_summary : ℕ → Summary
-refused_summary r = record { verdict = Refused r; occurring = replicate 12 0; settled = replicate 12 false }
+unfoldable pub refused_summary : Refusal → Summary
+refused_summary r = record { verdict = Err r; occurring = replicate 12 0; settled = replicate 12 false }
 
 unfoldable pub summary_with : ℕ → List ℕ → Summary
 summary_with n words =
     let shown = tabulate (shown_at n words) 12 in
-    record { verdict = Accepted; occurring = shown; settled = tabulate (settled_at shown) 12 }
+    record { verdict = Ok tt; occurring = shown; settled = tabulate (settled_at shown) 12 }
 
 -- the summary's answer
 unfoldable pub summary_of : Program → List ℕ → Summary
-summary_of p words = cond (eqb (refusal p words) 0) (summary_with p.atom_count words) (refused_summary (refusal p words))
+summary_of p words = cond (eqb (refusal p words) 0) (summary_with p.atom_count words) (refused_summary (refusal_of (refusal p words)))

@@ -1,38 +1,21 @@
 // The values that one atom takes in a list of words, and whether it is settled.
 #![tactic(auto)]
 
-ghost use Rattle.std.specs.Prelude.{◌≡◌, ◌≤◌, eqb};
-ghost use Rattle.program.specs.Values.{value_in};
+ghost use Rattle.std.specs.Prelude.{◌≡◌, ◌≤◌};
 ghost use Rattle.summary.specs.Summary.{occurs, occurring_in, is_settled, bit_if, shown_at};
-
-fn takes(w: u32, i: usize, v: u8) -> bool
-    ensures { result ≡ eqb (value_in w i) v }
-{
-    table_fields::value_in(w, i) == v
-}
 
 // Whether atom `i` takes the value `v` in some word.
 fn value_occurs(words: &[u32], i: usize, v: u8) -> bool
     ensures { result ≡ occurs v i words.now }
 {
-    let mut j: usize = 0;
-    while j < words.len() {
-        if takes(words[j], i, v) {
-            return true;
-        }
-        j += 1;
-    }
-    false
+    words.iter().any(|w| table_fields::value_in(*w, i) == v)
 }
 
 // The bit of the value `v` where atom `i` takes it in some word, 0 where not.
 fn bit_of(words: &[u32], i: usize, v: u8, bit: u8) -> u8
     ensures { (result ≡ bit_if (occurs v i words.now) bit) × (result ≤ bit) }
 {
-    if value_occurs(words, i, v) {
-        return bit;
-    }
-    0
+    if value_occurs(words, i, v) { bit } else { 0 }
 }
 
 // The values that atom `i` takes.
@@ -56,8 +39,5 @@ pub fn is_settled(s: u8) -> bool
 pub fn shown_at(words: &[u32], n: usize, i: usize) -> u8
     ensures { result ≡ shown_at n words.now i }
 {
-    if i < n {
-        return occurring_in(words, i);
-    }
-    0
+    if i < n { occurring_in(words, i) } else { 0 }
 }

@@ -3,24 +3,20 @@
 
 ghost use Rattle.std.specs.Prelude.{◌≡◌, ◌++◌, ◌/◌, ◌%◌, ◌≤◌};
 ghost use Rattle.sets.specs.Lists.{tabulate};
-ghost use Rattle.lists.specs.Bytes.{Wrote, one_if};
+ghost use Rattle.lists.specs.Bytes.{Wrote};
 ghost use Rattle.program.specs.Names.{name_at};
 ghost use Rattle.text.specs.Lines.{names_line};
 ghost use Rattle.lines.specs.Laying.{Room};
 ghost use Rattle.summarylines.specs.Summary.{bit_at, bits_line, four_lines, flag_at, flags_line};
+
+use std::array;
 
 // The bit of `x` that counts `k`.
 fn bit_of(x: u8, k: u64) -> u64
     requires { 1 ≤ k }
     ensures { result ≡ x / k % 2 }
 {
-    (x as u64) / k % 2
-}
-
-fn one_if(b: bool) -> u64
-    ensures { result ≡ one_if b }
-{
-    if b { 1 } else { 0 }
+    u64::from(x) / k % 2
 }
 
 // The bits that count `k`.
@@ -28,42 +24,28 @@ fn bits_of(shown: &[u8; program::MOST_ATOMS], k: u64) -> [u64; program::MOST_ATO
     requires { 1 ≤ k }
     ensures { result ≡ tabulate (bit_at k shown.now) 12 }
 {
-    let mut out = [0u64; program::MOST_ATOMS];
-    let mut i: usize = 0;
-    while i < program::MOST_ATOMS {
-        out[i] = bit_of(shown[i], k);
-        i += 1;
-    }
-    out
+    array::from_fn(|i| bit_of(shown[i], k))
 }
 
 // The flags, 1 for true.
 fn ones_of(flags: &[bool; program::MOST_ATOMS]) -> [u64; program::MOST_ATOMS]
     ensures { result ≡ tabulate (flag_at flags.now) 12 }
 {
-    let mut out = [0u64; program::MOST_ATOMS];
-    let mut i: usize = 0;
-    while i < program::MOST_ATOMS {
-        out[i] = one_if(flags[i]);
-        i += 1;
-    }
-    out
+    array::from_fn(|i| u64::from(flags[i]))
 }
 
 fn put_bits(out: &mut [u8], shown: &[u8; program::MOST_ATOMS], k: u64, n: usize) -> usize
     requires { (1 ≤ k) × Room n 12 (bits_line k shown.now n) out.old }
     ensures { Wrote (bits_line k shown.now n) out.old result out.new }
 {
-    let bits = bits_of(shown, k);
-    lines::put_values_line(out, &bits, n)
+    lines::put_values_line(out, &bits_of(shown, k), n)
 }
 
 fn put_flags(out: &mut [u8], flags: &[bool; program::MOST_ATOMS], n: usize) -> usize
     requires { Room n 12 (flags_line flags.now n) out.old }
     ensures { Wrote (flags_line flags.now n) out.old result out.new }
 {
-    let ones = ones_of(flags);
-    lines::put_values_line(out, &ones, n)
+    lines::put_values_line(out, &ones_of(flags), n)
 }
 
 fn put_two(out: &mut [u8], shown: &[u8; program::MOST_ATOMS], j: u64, k: u64, n: usize) -> usize

@@ -1,4 +1,5 @@
 -- What `summary` prints: the room for it, and that it is the text of the call's answer. Assumes nothing.
+use Rattle.std.specs.Prelude.{Ok, Err}
 use mathlib.Core.Path.{◌≡◌}
 use mathlib.Core.List.{List, ◌++◌}
 use Prim.Native.Nat.{ℕ}
@@ -7,7 +8,7 @@ use lib.ListN.{take}
 use Rattle.sets.specs.Lists.{tabulate}
 use Rattle.lists.specs.Bytes.{Wrote}
 use Rattle.program.specs.declared.Program.{Program}
-use Rattle.program.specs.declared.Verdict.TheVariants as verdict
+use Rattle.program.specs.declared.Refusal.{Refusal}
 use Rattle.program.specs.Names.{name_at, names_of}
 use Rattle.text.specs.Lines.{names_line}
 use Rattle.lines.specs.Laying.{Room}
@@ -40,13 +41,13 @@ module _ (p : Program) (s : Summary) (xs : List ℕ) where
   lines_wrote r ys w = w
 
 module _ (p : Program) (words : List ℕ) (s : Summary) (e : s ≡ summary_of p words) (xs : List ℕ) (r : ℕ) (ys : List ℕ) where
-  pub summed_wrote : s.verdict ≡ verdict.Accepted → Wrote (summary_lines p s) xs r ys → Wrote (summarized_text words p) xs r ys
+  pub summed_wrote : s.verdict ≡ Ok tt → Wrote (summary_lines p s) xs r ys → Wrote (summarized_text words p) xs r ys
   unfolding summarized_text unless_refused summary_lines
   summed_wrote t w = rw (← e, t) w
 
-  pub summed_refused : (n : ℕ) → s.verdict ≡ verdict.Refused n → Wrote (refused_line n) xs r ys → Wrote (summarized_text words p) xs r ys
+  pub summed_refused : (q : Refusal) → s.verdict ≡ Err q → Wrote (refused_line q) xs r ys → Wrote (summarized_text words p) xs r ys
   unfolding summarized_text unless_refused summary_lines
-  summed_refused n t w = rw (← e, t) w
+  summed_refused q t w = rw (← e, t) w
 
 pub summary_wrote : (p : Program) (d : ℕ) (a : SearchAnswer) (ms : List ℕ) → Searches p d allowance lent a ms → (xs : List ℕ) (r : ℕ) (ys : List ℕ)
     → Wrote (summarized_text (take a.written ms) p) xs r ys → Wrote (summary_text d p) xs r ys

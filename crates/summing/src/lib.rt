@@ -6,7 +6,7 @@ ghost use Rattle.printing.specs.Ready.{Ready};
 ghost use Rattle.summing.specs.Texts.{summary_lines, summarized_text, summary_text};
 
 use printing::{MOST_PLACES, NODE_LIMIT};
-use program::{Program, Verdict};
+use program::Program;
 use summary::Summary;
 
 // The names line, four lines of the values that occur, and the line of the settled names.
@@ -14,11 +14,7 @@ fn put_lines(p: Program, s: Summary, out: &mut [u8]) -> usize
     requires { Ready p out.old }
     ensures { Wrote (summary_lines p s) out.old result out.new }
 {
-    let n = p.atom_count;
-    let names = p.atom_names;
-    let shown = s.occurring;
-    let flags = s.settled;
-    summarylines::put_summary(out, &names, n, &shown, &flags)
+    summarylines::put_summary(out, &p.atom_names, p.atom_count, &s.occurring, &s.settled)
 }
 
 // The summary of the words.
@@ -27,10 +23,9 @@ fn put_summarized(p: Program, words: &[u32], out: &mut [u8]) -> usize
     ensures { Wrote (summarized_text words.now p) out.old result out.new }
 {
     let s = summarizer::summarize(p, words);
-    let verdict = s.verdict;
-    match verdict {
-        Verdict::Accepted => put_lines(p, s, out),
-        Verdict::Refused(number) => printing::put_refused(number, out),
+    match s.verdict {
+        Ok(()) => put_lines(p, s, out),
+        Err(refusal) => printing::put_refused(refusal, out),
     }
 }
 
@@ -41,6 +36,5 @@ pub fn put_summary(p: Program, day: u16, out: &mut [u8]) -> usize
 {
     let mut models = [0u32; MOST_PLACES];
     let a = search::search(p, day, NODE_LIMIT, &mut models);
-    let m = a.written;
-    put_summarized(p, &models[..m], out)
+    put_summarized(p, &models[..a.written], out)
 }

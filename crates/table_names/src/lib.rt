@@ -8,41 +8,32 @@ ghost use Rattle.program.specs.Names.{is_letter, is_plain, is_name};
 fn is_letter(x: u8) -> bool
     ensures { result ≡ is_letter x }
 {
-    (97 <= x) & (x <= 122)
+    matches!(x, b'a'..=b'z')
 }
 
 // Whether `x` is one of a-z and 0-9.
 pub fn is_plain(x: u8) -> bool
     ensures { result ≡ is_plain x }
 {
-    ((97 <= x) & (x <= 122)) | ((48 <= x) & (x <= 57))
+    matches!(x, b'a'..=b'z' | b'0'..=b'9')
 }
 
 fn all_plain(s: &[u8]) -> bool
     ensures { result ≡ every is_plain s.now }
 {
-    let mut i: usize = 0;
-    while i < s.len() {
-        if !is_plain(s[i]) {
-            return false;
-        }
-        i += 1;
-    }
-    true
+    s.iter().all(|x| is_plain(*x))
 }
 
 fn letter_first(s: &[u8]) -> bool
     ensures { result ≡ every is_letter (take 1 s.now) }
 {
-    if s.len() == 0 {
-        return true;
-    }
-    is_letter(s[0])
+    s.is_empty() || is_letter(s[0])
 }
 
 // Whether `s` has the form of a name.
+#[tactic(auto, unfolding(program::specs::Names::is_name))]
 pub fn is_name(s: &[u8]) -> bool
     ensures { result ≡ is_name s.now }
 {
-    (1 <= s.len()) & (s.len() <= program::NAME_BYTES) & all_plain(s) & letter_first(s)
+    !s.is_empty() && s.len() <= program::NAME_BYTES && all_plain(s) && letter_first(s)
 }

@@ -1,4 +1,6 @@
 -- What a text is read as, and the round trip, both ways: what is read is what is written. Assumes nothing.
+use Rattle.program.proofs.Lowest.{rises, numbers_known, number_lowest}
+use Rattle.std.specs.Prelude.{Ok, Err}
 use mathlib.Core.Path.{◌≡◌, refl, sym, ap, ap₂, ◌∙◌, fun_ext}
 use mathlib.Core.Bool.{true, false, cond}
 use mathlib.Core.Logic.{◌↔◌, ⊎_elim}
@@ -8,7 +10,7 @@ use lib.Dec.{eqb}
 use lib.ListN.{length}
 use borrow.Author.Tests.{eq-eqb, ne_eqb, eqb-true}
 use Rattle.sets.specs.Lists.{tabulate}
-use Rattle.sets.proofs.Tests.{dec}
+use Rattle.sets.proofs.Tests.{dec, clash}
 use Rattle.program.specs.declared.Program.{Program}
 use Rattle.program.specs.Clauses.{Clause, Row, rows}
 use Rattle.program.specs.Held.{nothing_held, released}
@@ -17,34 +19,33 @@ use Rattle.program.specs.Values.{clause_values, sum_for}
 use Rattle.program.specs.Valid.{held_valid, valid, Sized}
 use Rattle.program.proofs.Validity.{valid_held, valid-split, released_same}
 use Rattle.program.proofs.Values.{value_sum}
-use Rattle.program.specs.declared.Verdict.TheVariants.{Accepted, Refused}
 use Rattle.text.specs.Lines.{first_items, is_dated, names, clause_lines, row}
 use Rattle.text.specs.Tables.{table_of, zero_table}
 use Rattle.text.specs.Render.{book_items, row_numbers, numbers_of, render}
-use Rattle.text.specs.Refusals.{refusal}
+use Rattle.text.specs.Refusals.{refusal, refusals}
 use Rattle.text.specs.Reading.{row_of_numbers, program_of, read_of, IsAccepted}
-use Rattle.program.specs.Refusals.{refused_by}
+use Rattle.program.specs.Refusals.{refused_by, refusal_of, numbered}
 use Rattle.text.proofs.Books.{items_back, text_back, dated-again, names-again, rows-again}
 use Rattle.text.proofs.Tables.{names_of_table, rows_of_table, all_numbers, numbers_of_table, names_long, table_back, rows_back, good_table, valid_with, sized_with}
 use Rattle.text.proofs.Accepts.{accept_text, good_read}
 
 -- ---- the verdict is the refusal's number, and an accepted text comes with its table
 pub refused_by_lem : (b : List ℕ) → refused_by (read_of b).verdict ≡ refusal b
-unfolding read_of
+unfolding read_of refusal rises numbers_known numbered
 refused_by_lem b = ⊎_elim
     (λ t. rw t (sym (eqb-true (refusal b) 0 t)))
-    (λ f. rw f)
+    (λ f. rw f (number_lowest (refusals b) refl refl (λ z. clash (eqb (refusal b) 0) (eq-eqb (refusal b) 0 z) f)))
     (dec (eqb (refusal b) 0))
 
 pub cleared : (b : List ℕ) → IsAccepted b → refusal b ≡ 0
 cleared b a = sym (refused_by_lem b) ∙ ap refused_by a
 
-pub taken : (b : List ℕ) → refusal b ≡ 0 → read_of b ≡ record { verdict = Accepted; program = program_of b }
+pub taken : (b : List ℕ) → refusal b ≡ 0 → read_of b ≡ record { verdict = Ok tt; program = program_of b }
 unfolding read_of
 taken b z = rw (eq-eqb (refusal b) 0 z)
 
 -- "A refusal carries its number; the reader's comes with an all-zero table"
-pub refused : (b : List ℕ) → (refusal b ≡ 0 → ⊥) → read_of b ≡ record { verdict = Refused (refusal b); program = zero_table }
+pub refused : (b : List ℕ) → (refusal b ≡ 0 → ⊥) → read_of b ≡ record { verdict = Err (refusal_of (refusal b)); program = zero_table }
 unfolding read_of
 refused b h = rw (ne_eqb (refusal b) 0 h)
 
@@ -153,8 +154,8 @@ written_back b a = let z = cleared b a in ap render (program_is b z) ∙ render_
 
 -- The text of a valid program is accepted, and is read as just that program, with nothing held.
 -- Document 02, U5: "Reading a written table therefore gives it without the held clause."
-pub read_back : (p : Program) → Sized p → valid p ≡ true → read_of (render p) ≡ record { verdict = Accepted; program = released p }
-read_back p s v = taken (render p) (accept_render p s v) ∙ ap (λ q. record { verdict = Accepted; program = q }) (read-render p s v)
+pub read_back : (p : Program) → Sized p → valid p ≡ true → read_of (render p) ≡ record { verdict = Ok tt; program = released p }
+read_back p s v = taken (render p) (accept_render p s v) ∙ ap (λ q. record { verdict = Ok tt; program = q }) (read-render p s v)
 
 -- A text is accepted exactly when it is the text of some valid program.
 pub accepted_exactly : (b : List ℕ) → IsAccepted b ↔ ((p : Program) × Sized p × (valid p ≡ true) × (render p ≡ b))

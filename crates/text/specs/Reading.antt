@@ -1,10 +1,11 @@
 -- What a text is read as. Assumes nothing.
-use Rattle.std.specs.Prelude.{◌≡◌, cond, List, map, ℕ, ◌+◌, eqb, length, get_or, take}
+use Rattle.std.specs.Prelude.{◌≡◌, cond, List, map, ℕ, ◌+◌, eqb, length, get_or, take, Ok, Err}
 use Rattle.program.specs.declared.Program.{Program}
 use Rattle.program.specs.Clauses.{Row, row_of}
 use Rattle.program.specs.Values.{clause_of_values}
 use Rattle.text.specs.declared.Read.{Read}
-use Rattle.program.specs.declared.Verdict.TheVariants.{Accepted, Refused}
+use Rattle.program.specs.declared.Refusal.{Refusal}
+use Rattle.program.specs.Refusals.{refusal_of}
 use Rattle.text.specs.Lines.{is_dated, names, clause_lines, row}
 use Rattle.text.specs.Tables.{table_of, zero_table}
 use Rattle.text.specs.Refusals.{refusal}
@@ -19,13 +20,13 @@ unfolding row_of_numbers
 program_of b = table_of (is_dated b) (names b) (map (row_of_numbers (length (names b))) (map row (clause_lines b)))
 
 -- "A refusal carries its number; the reader's comes with an all-zero table"
-abbrev pub refused_with : ℕ → Read
-refused_with n = record { verdict = Refused n; program = zero_table }
+abbrev pub refused_with : Refusal → Read
+refused_with r = record { verdict = Err r; program = zero_table }
 
 -- the reader's answer
 unfoldable pub read_of : List ℕ → Read
-read_of b = cond (eqb (refusal b) 0) (record { verdict = Accepted; program = program_of b }) (refused_with (refusal b))
+read_of b = cond (eqb (refusal b) 0) (record { verdict = Ok tt; program = program_of b }) (refused_with (refusal_of (refusal b)))
 
 -- the reader takes the text
 abbrev pub IsAccepted : List ℕ → Type 0
-IsAccepted b = (read_of b).verdict ≡ Accepted
+IsAccepted b = (read_of b).verdict ≡ Ok tt

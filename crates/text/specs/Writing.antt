@@ -1,17 +1,20 @@
 -- What the writer answers, and what its slice holds then. Assumes nothing.
-use Rattle.std.specs.Prelude.{◌≡◌, Bool, not, cond, List, [], ◌∷◌, ℕ, eqb, ltb, length}
+use Rattle.std.specs.Prelude.{◌≡◌, Bool, not, cond, List, [], ◌∷◌, ℕ, eqb, ltb, length, Result, Ok, Err}
 use Rattle.lists.specs.Bytes.{over}
 use Rattle.program.specs.declared.Program.{Program}
-use Rattle.program.specs.Refusals.{lowest}
+use Rattle.program.specs.Refusals.{lowest, refusal_of}
 use Rattle.program.specs.Valid.{valid}
-use Rattle.text.specs.declared.Written.{Written}
-use Rattle.text.specs.declared.Written.TheVariants.{Refused, Length}
+use Rattle.program.specs.declared.Refusal.{Refusal}
 use Rattle.text.specs.Render.{render}
+
+-- the length of the text, or the refusal
+abbrev pub Written : Type 0
+Written = Result ℕ Refusal
 
 -- the length that an answer gives, "counts are 0" where refused
 abbrev pub written_length : Written → ℕ
-written_length (Refused r) = 0
-written_length (Length n) = n
+written_length (Err r) = 0
+written_length (Ok n) = n
 
 -- 13. "The writer's slice is shorter than the text."; the writer meets "9 and 13"
 abbrev pub write_refusals : Program → List ℕ → List (ℕ × Bool)
@@ -22,7 +25,7 @@ write_refusal p out = lowest (write_refusals p out)
 
 -- "Its answer is the text's length in bytes."
 unfoldable pub answer_of : Program → List ℕ → Written
-answer_of p out = cond (eqb (write_refusal p out) 0) (Length (length (render p))) (Refused (write_refusal p out))
+answer_of p out = cond (eqb (write_refusal p out) 0) (Ok (length (render p))) (Err (refusal_of (write_refusal p out)))
 
 -- "The writer puts a table's text at the start of a lent slice ..; later bytes are untouched"; a refusal writes no text
 unfoldable pub exit_of : Program → List ℕ → List ℕ

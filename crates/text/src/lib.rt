@@ -1,7 +1,7 @@
 // The bytes between items and behind lines, and what the reader and the writer answer.
 #![tactic(auto)]
 
-use program::{Program, Verdict};
+use program::{Program, Refusal, Verdict};
 
 pub const SPACE: u8 = 32;
 
@@ -15,8 +15,4 @@ pub struct Read {
 }
 
 // The length of the text that was written, or the refusal.
-#[derive(Clone, Copy)]
-pub enum Written {
-    Refused(u8),
-    Length(usize),
-}
+pub type Written = Result<usize, Refusal>;

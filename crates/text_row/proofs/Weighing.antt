@@ -1,6 +1,7 @@
 -- The tests and the words of a row, one value after another from the last to the first. Assumes nothing.
 use mathlib.Core.Path.{◌≡◌, sym, ap, ◌∙◌}
-use mathlib.Core.Bool.{Bool, true, false, ◌&&◌, and_assoc}
+use mathlib.Core.Bool.{Bool, true, false, ◌&&◌, and_assoc, and_comm}
+use mathlib.Core.Logic.{⊎_elim}
 use mathlib.Core.List.{List, ◌∷◌}
 use Prim.Native.Nat.{ℕ, suc, ◌+◌, ◌-◌, ◌*◌, ◌/◌, ◌%◌, ◌≤◌, ◌<◌}
 use native.Mathlib.Omega.{arith}
@@ -8,7 +9,9 @@ use lib.Dec.{eqb, leb, ltb}
 use lib.Pow.{pow_mono}
 use lib.ListN.{length, get_or, take, drop, length-take, length-drop, drop_of_length-le}
 use lib.Seq.{drop-cons, get_or-take, length-take-le}
+use borrow.Author.Tests.{eq-eqb, ne_eqb}
 use Rattle.sets.specs.Lists.{every}
+use Rattle.sets.proofs.Tests.{same?}
 use Rattle.program.specs.Values.{word_of, bits_of, word_by, head_of, body_of, naf_of}
 use Rattle.text.specs.Refusals.{is_value}
 use Rattle.text.proofs.Tables.{word_lt}
@@ -25,6 +28,9 @@ unfolding wanted
 wanted-undated dated n f = rw f (omega arith)
 
 -- ---- the values
+eqb_zero : (v : ℕ) → eqb v 0 ≡ eqb 0 v
+eqb_zero v = ⊎_elim (λ (e : v ≡ 0). rw (eq-eqb v 0 e, eq-eqb 0 v (sym e))) (λ f. rw (ne_eqb v 0 f, ne_eqb 0 v (λ e. f (sym e)))) (same? v 0)
+
 -- what some values say, where g was said of the days behind them and of the number of all, and h of that number
 pub record Said : Type 0 where
   pub holds : Bool
@@ -82,15 +88,19 @@ module _ (values : List ℕ) (n : ℕ) (g h : Bool) where
   unfolding said every word_by word_of
   weigh_start f = weighing n g h 0 0 0 f (omega arith) (ap (said g h) (sym (drop_of_length-le (take n values) {i = n} (omega (arith, length-take n values)))))
 
-  pub weigh_more : (i v : ℕ) (holds zero : Bool) (head body naf : ℕ) → Weighing i holds zero head body naf → n ≤ 12 → length values ≡ 14 → 0 < i → v ≡ get_or values (i - 1) 0
+  weigh_front : (i v : ℕ) (holds zero : Bool) (head body naf : ℕ) → Weighing i holds zero head body naf → n ≤ 12 → length values ≡ 14 → 0 < i → v ≡ get_or values (i - 1) 0
       → Weighing (i - 1) (leb v 63 && holds) (eqb 0 v && zero) (v % 4 + 4 * head) (v / 4 % 4 + 4 * body) (v / 16 % 4 + 4 * naf)
-  weigh_more i v holds zero head body naf s f l p e =
+  weigh_front i v holds zero head body naf s f l p e =
       let w = s.within in
       let m : length (take n values) ≡ n = length-take-le n values (omega arith) in
       let u : suc (i - 1) ≡ i = omega arith in
       let st : drop (i - 1) (take n values) ≡ v ∷ drop i (take n values) =
       drop-cons (take n values) (i - 1) 0 (omega arith) ∙ rw (u, get_or-take n values (i - 1) 0 (omega arith), ← e) in
       weighing (i - 1) _ _ _ _ _ f (omega arith) (ap (with_value v) s.is ∙ said_more g h v _ ∙ ap (said g h) (sym st))
+
+  pub weigh_more : (i v : ℕ) (holds zero : Bool) (head body naf : ℕ) → Weighing i holds zero head body naf → n ≤ 12 → length values ≡ 14 → 0 < i → v ≡ get_or values (i - 1) 0
+      → Weighing (i - 1) (holds && leb v 63) (zero && eqb v 0) (v % 4 + 4 * head) (v / 4 % 4 + 4 * body) (v / 16 % 4 + 4 * naf)
+  weigh_more i v holds zero head body naf s f l p e = rw (and_comm holds (leb v 63), eqb_zero v, and_comm zero (eqb 0 v)) (weigh_front i v holds zero head body naf s f l p e)
 
 -- ---- a row as a whole, its days too
 pub weigh_done : (r : Row) (dated : Bool) (n m f l i : ℕ) (holds zero : Bool) (head body naf day day' : ℕ)

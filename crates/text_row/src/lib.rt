@@ -5,7 +5,6 @@ ghost use Rattle.std.specs.Prelude.{◌≡◌, set};
 ghost use Rattle.text.specs.Lines.{value_of};
 ghost use Rattle.text_row.specs.Rows.{row_of};
 
-use decimal::Parsed;
 use text::SPACE;
 
 // The numbers of a row: one for each of the most names, and two behind them.
@@ -42,8 +41,8 @@ fn value_of(s: &[u8]) -> u32
     ensures { result ≡ value_of s.now }
 {
     match decimal::read_number(s, MOST_NUMBER) {
-        Parsed::Number(v) => v as u32,
-        Parsed::Nothing => NO_NUMBER,
+        Some(v) => v as u32,
+        None => NO_NUMBER,
     }
 }
 
@@ -62,16 +61,9 @@ pub fn row_of(line: &[u8]) -> Row
 {
     let mut values = [0u32; ROW_PLACES];
     let mut count: usize = 0;
-    let mut at: usize = 0;
-    while at <= line.len() {
-        let e = lists::end_of(line, at, SPACE);
-        let v = value_of(&line[at..e]);
-        keep(&mut values, count, v);
+    for item in line.split(|b| *b == SPACE) {
+        keep(&mut values, count, value_of(item));
         count += 1;
-        at = e + 1;
     }
-    Row {
-        count: count,
-        values: values,
-    }
+    Row { count, values }
 }

@@ -1,4 +1,6 @@
 -- The text of a table: its rows' lines as pieces, how long it is, and the writer's answers. Assumes nothing.
+use Rattle.program.specs.declared.Refusal.TheVariants.{InvalidProgram, SliceTooShort}
+use Rattle.std.specs.Prelude.{Ok, Err}
 use mathlib.Core.Path.{◌≡◌, ap, ◌∙◌}
 use mathlib.Core.Bool.{Bool, true, false, cond}
 use mathlib.Core.List.{List, [], ◌∷◌, flat_map}
@@ -13,14 +15,13 @@ use Rattle.program.specs.declared.Program.{Program}
 use Rattle.program.specs.Clauses.{Clause, clause_at, row_of, row_at, rows}
 use Rattle.program.specs.Names.{name_at, names_of}
 use Rattle.program.specs.Values.{clause_value, clause_values}
-use Rattle.program.specs.Refusals.{lowest}
+use Rattle.program.specs.Refusals.{lowest, numbered}
 use Rattle.program.specs.Valid.{valid, Sized}
 use Rattle.program.proofs.Validity.{valid_names, valid_clauses}
 use Rattle.program.proofs.Values.{value_lt}
 use Rattle.text.specs.Lines.{names_line, values_line}
 use Rattle.text.specs.Render.{book_items, book_text, row_numbers, numbers_of, render}
 use Rattle.text.specs.Writing.{write_refusal, answer_of, exit_of, Writes}
-use Rattle.text.specs.declared.Written.TheVariants.{Refused, Length}
 use Rattle.lines.specs.Laying.{Room}
 use Rattle.lines.proofs.Laying.{laid, flat_laid}
 use Rattle.lines.proofs.Going.{names_long, values_long}
@@ -90,15 +91,15 @@ module _ (p : Program) (v : valid p ≡ true) where
 
 -- ---- the writer's answer
 module _ (p : Program) (out : List ℕ) where
-  pub writes9 : valid p ≡ false → Writes p out (Refused 9) out
-  unfolding answer_of exit_of write_refusal lowest
+  pub writes9 : valid p ≡ false → Writes p out (Err InvalidProgram) out
+  unfolding answer_of exit_of write_refusal lowest numbered
   writes9 e = record { answer = rw e; slice = rw e }
 
   module _ (v : valid p ≡ true) (size : ℕ) (q : size ≡ length (render p)) where
-    pub writes13 : length out < size → Writes p out (Refused 13) out
-    unfolding answer_of exit_of write_refusal lowest
+    pub writes13 : length out < size → Writes p out (Err SliceTooShort) out
+    unfolding answer_of exit_of write_refusal lowest numbered
     writes13 h = let l = lt-ltb (length out) (length (render p)) (omega arith) in record { answer = rw (v, l); slice = rw (v, l) }
 
-    pub writes : (r : ℕ) (ys : List ℕ) → size ≤ length out → Wrote (render p) out r ys → Writes p out (Length r) ys
-    unfolding answer_of exit_of write_refusal lowest
-    writes r ys h w = let l = le-ltb (length out) (length (render p)) (omega arith) in record { answer = rw (v, l) (ap Length w.size); slice = rw (v, l) w.whole }
+    pub writes : (r : ℕ) (ys : List ℕ) → size ≤ length out → Wrote (render p) out r ys → Writes p out (Ok r) ys
+    unfolding answer_of exit_of write_refusal lowest numbered
+    writes r ys h w = let l = le-ltb (length out) (length (render p)) (omega arith) in record { answer = rw (v, l) (ap Ok w.size); slice = rw (v, l) w.whole }

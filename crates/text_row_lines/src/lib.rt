@@ -11,15 +11,16 @@ ghost use Rattle.text.specs.Render.{row_numbers, numbers_of};
 ghost use Rattle.lines.specs.Laying.{Room};
 
 use program::Program;
+use std::array;
 use text::SPACE;
 
 // The value of atom `i` in a clause.
 fn clause_value(head: u32, body: u32, naf: u32, i: usize) -> u64
     ensures { result ≡ clause_value (clause_of head body naf) i }
 {
-    let h = table_fields::value_in(head, i) as u64;
-    let b = table_fields::value_in(body, i) as u64;
-    let f = table_fields::value_in(naf, i) as u64;
+    let h = u64::from(table_fields::value_in(head, i));
+    let b = u64::from(table_fields::value_in(body, i));
+    let f = u64::from(table_fields::value_in(naf, i));
     h + 4 * b + 16 * f
 }
 
@@ -27,13 +28,7 @@ fn clause_value(head: u32, body: u32, naf: u32, i: usize) -> u64
 fn clause_values(head: u32, body: u32, naf: u32) -> [u64; program::MOST_ATOMS]
     ensures { result ≡ clause_values 12 (clause_of head body naf) }
 {
-    let mut out = [0u64; program::MOST_ATOMS];
-    let mut i: usize = 0;
-    while i < program::MOST_ATOMS {
-        out[i] = clause_value(head, body, naf, i);
-        i += 1;
-    }
-    out
+    array::from_fn(|i| clause_value(head, body, naf, i))
 }
 
 // The line of the values of a clause at the front of `out`.
@@ -41,8 +36,7 @@ fn put_clause_line(out: &mut [u8], head: u32, body: u32, naf: u32, n: usize) -> 
     requires { Room n 12 (values_line (clause_values n (clause_of head body naf))) out.old }
     ensures { Wrote (values_line (clause_values n (clause_of head body naf))) out.old result out.new }
 {
-    let values = clause_values(head, body, naf);
-    lines::put_values_line(out, &values, n)
+    lines::put_values_line(out, &clause_values(head, body, naf), n)
 }
 
 // The line of a row at the front of `out`: of a dated book the end of the line of its values becomes a space, and its days stand behind.
@@ -64,7 +58,7 @@ fn put_row_line(
         return a;
     }
     out[a - 1] = SPACE;
-    let days = [first as u64, last as u64];
+    let days = [u64::from(first), u64::from(last)];
     let b = lines::put_values_line(&mut out[a..], &days, 2);
     a + b
 }
@@ -74,10 +68,9 @@ pub fn put_row_lines(p: Program, out: &mut [u8]) -> usize
     requires { (p.clause_count ≤ 64) × Room p.atom_count 12 (flat_map values_line (numbers_of p)) out.old }
     ensures { Wrote (flat_map values_line (numbers_of p)) out.old result out.new }
 {
-    let mut at: usize = 0;
-    let mut k: usize = 0;
-    while k < p.clause_count {
-        let l = put_row_line(
+    let mut at = 0;
+    for k in 0..p.clause_count {
+        at += put_row_line(
             &mut out[at..],
             p.heads[k],
             p.bodies[k],
@@ -87,8 +80,6 @@ pub fn put_row_lines(p: Program, out: &mut [u8]) -> usize
             p.atom_count,
             p.dated,
         );
-        at = at + l;
-        k += 1;
     }
     at
 }

@@ -1,4 +1,8 @@
 -- The parts of a text that none of the first six refusals meets, and one law for each way to answer. Assumes nothing.
+use Rattle.program.proofs.Lowest.{refusal_is, number_some}
+use Rattle.program.specs.declared.Refusal.TheVariants.{ClauseBroken, OnlyZeros, DaysReversed}
+use Rattle.program.specs.declared.Refusal.{Refusal}
+use Rattle.std.specs.Prelude.{Ok, Err}
 use mathlib.Core.Path.{◌≡◌, refl, sym, ap, ◌∙◌}
 use mathlib.Core.Bool.{Bool, true, false}
 use mathlib.Core.List.{List, [], ◌∷◌}
@@ -10,10 +14,9 @@ use Rattle.lists.specs.Bytes.{pieces, padded, CountOf}
 use Rattle.lists.proofs.Pieces.{length-pieces}
 use Rattle.program.specs.Held.{nothing_held}
 use Rattle.program.specs.Names.{is_name}
-use Rattle.program.specs.Refusals.{lowest}
+use Rattle.program.specs.Refusals.{lowest, number}
 use Rattle.program.specs.declared.HeldClause.{HeldClause}
 use Rattle.program.specs.declared.Program.{Program}
-use Rattle.program.specs.declared.Verdict.TheVariants.{Accepted, Refused}
 use Rattle.text.specs.declared.Read.{Read}
 use Rattle.text.specs.Lines.{HasLine, is_dated, names}
 use Rattle.text.specs.Tables.{placed, table_of, zero_table}
@@ -26,8 +29,8 @@ use Rattle.clauselines.specs.declared.ClauseLines.{ClauseLines}
 use Rattle.clauselines.specs.Gathered.{clauses_of}
 use Rattle.clauselines.proofs.Reading.{broken_is, clauses_said}
 
-pub none : (b : List ℕ) (k : ℕ) → k ≡ opening_refusal b → k ≡ 0 → opening_refusal b ≡ 0
-none b k e z = sym e ∙ z
+pub none : (b : List ℕ) → 0 ≡ opening_refusal b → opening_refusal b ≡ 0
+none b e = sym e
 
 -- ---- the names
 module _ (b : List ℕ) (z : opening_refusal b ≡ 0) where
@@ -49,9 +52,9 @@ module _ (b : List ℕ) (e : ℕ) (q : NamesEnd b e) where
   names_put out f = f ∙ ap (λ (l : List (List ℕ)). padded 96 (placed l)) (sym q.items)
 
 -- ---- the answers
-pub zero_is : (n : ℕ) (u : HeldClause) → u ≡ nothing_held
+pub zero_is : (q : Refusal) (u : HeldClause) → u ≡ nothing_held
     → record {
-      verdict = Refused n;
+      verdict = Err q;
       program = record {
         atom_count = 0;
         atom_names = replicate 96 0;
@@ -64,25 +67,25 @@ pub zero_is : (n : ℕ) (u : HeldClause) → u ≡ nothing_held
         lasts = replicate 64 0;
         held = u;
       };
-    } ≡ refused_with n
+    } ≡ refused_with q
 unfolding zero_table
-zero_is n u e = rw e
+zero_is q u e = rw e
 
 module _ (b : List ℕ) (r : Read) where
   -- a refusal that is the lowest
-  by_number : (k : ℕ) → refusal b ≡ k → (k ≡ 0 → ⊥) → r ≡ refused_with k → r ≡ read_of b
-  by_number k e h g = g ∙ ap refused_with (sym e) ∙ sym (refused b (λ z. h (sym e ∙ z)))
+  by_number : (q : Refusal) → refusal b ≡ number q → r ≡ refused_with q → r ≡ read_of b
+  by_number q e g = g ∙ ap refused_with (sym (refusal_is q (refusal b) (sym e))) ∙ sym (refused b (λ z. number_some q (sym e ∙ z)))
 
-  pub read-early : (k : ℕ) → k ≡ opening_refusal b → (k ≡ 0 → ⊥) → r ≡ refused_with k → r ≡ read_of b
-  read-early k e h g = by_number k (early b (λ z. h (e ∙ z)) ∙ sym e) h g
+  pub read-early : (q : Refusal) → number q ≡ opening_refusal b → r ≡ refused_with q → r ≡ read_of b
+  read-early q e g = by_number q (early b (λ z. number_some q (e ∙ z)) ∙ sym e) g
 
 module _ (b : List ℕ) (z : opening_refusal b ≡ 0) (c : ClauseLines) (e : c ≡ clauses_of b) where
   pub breaks_or_not : (t : Bool) → c.broken ≡ t → clause_broken b ≡ t
   breaks_or_not t h = sym (broken_is b z) ∙ ap (λ l. l.broken) (sym e) ∙ h
 
-  pub read_seven : (r : Read) → c.broken ≡ true → r ≡ refused_with 7 → r ≡ read_of b
+  pub read_seven : (r : Read) → c.broken ≡ true → r ≡ refused_with ClauseBroken → r ≡ read_of b
   unfolding lowest
-  read_seven r h g = by_number b r 7 (late b z ∙ rw (breaks_or_not true h)) (λ k. omega arith) g
+  read_seven r h g = by_number b r ClauseBroken (late b z ∙ rw (breaks_or_not true h)) g
 
   -- the refusal where no line breaks the form
   behind_seven : c.broken ≡ false → (t u : Bool) → c.zeros ≡ t → c.reversed ≡ u → refusal b ≡ lowest ((8, t) ∷ (22, u) ∷ [])
@@ -91,15 +94,15 @@ module _ (b : List ℕ) (z : opening_refusal b ≡ 0) (c : ClauseLines) (e : c �
       let s = clauses_said b z (breaks_or_not false h) in
       late b z ∙ rw (breaks_or_not false h, ← ap (λ l. l.zeros) s, ← ap (λ l. l.reversed) s, ← e, k, l)
 
-  pub read_eight : (r : Read) → c.broken ≡ false → c.zeros ≡ true → r ≡ refused_with 8 → r ≡ read_of b
+  pub read_eight : (r : Read) → c.broken ≡ false → c.zeros ≡ true → r ≡ refused_with OnlyZeros → r ≡ read_of b
   unfolding lowest
-  read_eight r h k g = by_number b r 8 (behind_seven h true c.reversed k refl) (λ k. omega arith) g
+  read_eight r h k g = by_number b r OnlyZeros (behind_seven h true c.reversed k refl) g
 
-  pub read_reversed : (r : Read) → c.broken ≡ false → c.zeros ≡ false → c.reversed ≡ true → r ≡ refused_with 22 → r ≡ read_of b
+  pub read_reversed : (r : Read) → c.broken ≡ false → c.zeros ≡ false → c.reversed ≡ true → r ≡ refused_with DaysReversed → r ≡ read_of b
   unfolding lowest
-  read_reversed r h k l g = by_number b r 22 (behind_seven h false true k l) (λ k. omega arith) g
+  read_reversed r h k l g = by_number b r DaysReversed (behind_seven h false true k l) g
 
-  pub read_table : (p : Program) → c.broken ≡ false → c.zeros ≡ false → c.reversed ≡ false → p ≡ program_of b → record { verdict = Accepted; program = p } ≡ read_of b
+  pub read_table : (p : Program) → c.broken ≡ false → c.zeros ≡ false → c.reversed ≡ false → p ≡ program_of b → record { verdict = Ok tt; program = p } ≡ read_of b
   unfolding lowest
   read_table p h k l g = rw g (sym (taken b (behind_seven h false false k l)))
 

@@ -12,7 +12,7 @@ ghost use Rattle.text.specs.Reading.{program_of, refused_with};
 ghost use Rattle.clauselines.specs.Gathered.{clauses_of};
 
 use clauselines::ClauseLines;
-use program::{Program, Verdict};
+use program::{Program, Refusal};
 use text::{Read, SPACE};
 
 // The names on a line, each at the front of its place of eight bytes; `out` is all zero before.
@@ -21,12 +21,9 @@ fn put_names(out: &mut [u8], line: &[u8])
     ensures { out.new ≡ padded 96 (placed (pieces 32 line.now)) }
 {
     let mut a: usize = 0;
-    let mut at: usize = 0;
-    while at <= line.len() {
-        let e = lists::end_of(line, at, SPACE);
-        lists::put_bytes(&mut out[a..], &line[at..e]);
-        a += 8;
-        at = e + 1;
+    for name in line.split(|b| *b == SPACE) {
+        lists::put_bytes(&mut out[a..], name);
+        a += program::NAME_BYTES;
     }
 }
 
@@ -46,48 +43,47 @@ pub fn table_of(text: &[u8], n: usize, dated: bool, lines: ClauseLines) -> Progr
     ensures { result ≡ program_of text.now }
 {
     let names = atom_names(text);
-    let heads = lines.heads;
-    let bodies = lines.bodies;
-    let nafs = lines.nafs;
-    let firsts = lines.firsts;
-    let lasts = lines.lasts;
-    let held = table_fields::nothing_held();
+    let ClauseLines {
+        count,
+        heads,
+        bodies,
+        nafs,
+        firsts,
+        lasts,
+        ..
+    } = lines;
     Program {
         atom_count: n,
         atom_names: names,
-        clause_count: lines.count,
-        heads: heads,
-        bodies: bodies,
-        nafs: nafs,
-        dated: dated,
-        firsts: firsts,
-        lasts: lasts,
-        held: held,
+        clause_count: count,
+        heads,
+        bodies,
+        nafs,
+        dated,
+        firsts,
+        lasts,
+        held: table_fields::nothing_held(),
     }
 }
 
 // A refusal and the all-zero table.
-pub fn refused(number: u8) -> Read
-    ensures { result ≡ refused_with number }
+pub fn refused(refusal: Refusal) -> Read
+    ensures { result ≡ refused_with refusal }
 {
-    let names = [0u8; 96];
-    let words = [0u32; 64];
-    let days = [0u16; 64];
-    let held = table_fields::nothing_held();
-    let none = Program {
+    let program = Program {
         atom_count: 0,
-        atom_names: names,
+        atom_names: [0; 96],
         clause_count: 0,
-        heads: words,
-        bodies: words,
-        nafs: words,
+        heads: [0; 64],
+        bodies: [0; 64],
+        nafs: [0; 64],
         dated: false,
-        firsts: days,
-        lasts: days,
-        held: held,
+        firsts: [0; 64],
+        lasts: [0; 64],
+        held: table_fields::nothing_held(),
     };
     Read {
-        verdict: Verdict::Refused(number),
-        program: none,
+        verdict: Err(refusal),
+        program,
     }
 }

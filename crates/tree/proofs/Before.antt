@@ -1,4 +1,5 @@
 -- The tree under the node test has the p-stable leaves of the tree under document 01's test, in no more nodes, and none of them later. Assumes nothing.
+use Rattle.std.specs.Prelude.{Ok}
 use mathlib.Core.Path.{◌≡◌, refl, sym, ap, ◌∙◌, fun_ext}
 use mathlib.Core.Bool.{Bool, true, false, cond}
 use mathlib.Core.Logic.{◌⊎◌, ⊎_elim}
@@ -121,7 +122,7 @@ module _ (hit : Node → Bool) (ys xs : List Node) (t : Thins hit ys xs) (A : �
 
   -- what is to be shown of the two answers; the lists follow from what is written
   both : (a b : SearchAnswer) → a ≡ run_answer hit xs A (length l) → b ≡ run_answer hit ys A (length l)
-      → ((a.outcome ≡ Spent → ⊥) → (b.outcome ≡ a.outcome) × (b.written ≡ a.written)) → b.visited ≤ a.visited → a.written ≤ b.written
+      → ((a.outcome ≡ Ok Spent → ⊥) → (b.outcome ≡ a.outcome) × (b.written ≡ a.written)) → b.visited ≤ a.visited → a.written ≤ b.written
       → AsBefore a b (run_exit hit xs A l) (run_exit hit ys A l)
   both a b p q f v g = record {
     ends = λ d. (f d).0;

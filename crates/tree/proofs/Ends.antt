@@ -1,4 +1,5 @@
 -- How a run over nodes ends: full, spent or complete, and the node at which it is full. Assumes nothing.
+use Rattle.std.specs.Prelude.{Ok}
 use mathlib.Core.Path.{◌≡◌, refl}
 use mathlib.Core.Bool.{Bool, true, false, cond}
 use mathlib.Core.Logic.{◌⊎◌, ⊎_elim}
@@ -36,9 +37,9 @@ module _ (hit : Node → Bool) (xs : List Node) (L : ℕ) where
 
 -- ---- the three ways to end, with A nodes allowed and L places, where H p-stable leaves are among the first A of N nodes
 pub data Ended (L H A N F : ℕ) (a : SearchAnswer) : Type 0 where
-  ends-full : L < H → a ≡ answer Full L F → Ended L H A N F a
-  ends-spent : H ≤ L → A < N → a ≡ answer Spent H A → Ended L H A N F a
-  ends-complete : H ≤ L → N ≤ A → a ≡ answer Complete H N → Ended L H A N F a
+  ends-full : L < H → a ≡ answer (Ok Full) L F → Ended L H A N F a
+  ends-spent : H ≤ L → A < N → a ≡ answer (Ok Spent) H A → Ended L H A N F a
+  ends-complete : H ≤ L → N ≤ A → a ≡ answer (Ok Complete) H N → Ended L H A N F a
 
 pub ended : (hit : Node → Bool) (xs : List Node) (A L : ℕ) → Ended L (length (hits hit (take A xs))) A (length xs) (full_at hit xs L) (run_answer hit xs A L)
 unfolding run_answer overfull
@@ -46,7 +47,7 @@ ended hit xs A L = go (ltb L (length (hits hit (take A xs)))) refl (ltb A (lengt
   where
     go : (b : Bool) → ltb L (length (hits hit (take A xs))) ≡ b → (c : Bool) → ltb A (length xs) ≡ c
         → Ended L (length (hits hit (take A xs))) A (length xs) (full_at hit xs L)
-        (cond b (answer Full L (full_at hit xs L)) (cond c (answer Spent (length (hits hit (take A xs))) A) (answer Complete (length (hits hit (take A xs))) (length xs))))
+        (cond b (answer (Ok Full) L (full_at hit xs L)) (cond c (answer (Ok Spent) (length (hits hit (take A xs))) A) (answer (Ok Complete) (length (hits hit (take A xs))) (length xs))))
     go true e c f = ends-full (ltb-true _ _ e) refl
     go false e true f = ends-spent (ltb-false _ _ e) (ltb-true _ _ f) refl
     go false e false f = ends-complete (ltb-false _ _ e) (ltb-false _ _ f) refl

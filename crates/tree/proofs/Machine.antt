@@ -1,4 +1,6 @@
 -- A run node by node: its state is the answer so far and the list; it ends in the answer that is read off the nodes. Assumes nothing.
+use Rattle.program.specs.declared.Refusal.{Refusal}
+use Rattle.std.specs.Prelude.{Ok, Result, Err}
 use mathlib.Core.Path.{◌≡◌, refl, sym, ap, ◌∙◌}
 use mathlib.Core.Bool.{Bool, true, false, cond}
 use mathlib.Core.Logic.{◌⊎◌, ⊎_elim}
@@ -15,7 +17,7 @@ use Rattle.sets.specs.Least.{least, least_from}
 use Rattle.sets.proofs.Tests.{dec}
 use Rattle.sets.proofs.Least.{least_suc}
 use Rattle.program.specs.declared.Outcome.{Outcome}
-use Rattle.program.specs.declared.Outcome.TheVariants.{Complete, Full, Spent, Refused}
+use Rattle.program.specs.declared.Outcome.TheVariants.{Complete, Full, Spent}
 use Rattle.tree.specs.declared.SearchAnswer.{SearchAnswer}
 use Rattle.tree.specs.Tree.{Node, hits}
 use Rattle.tree.specs.Answer.{answer, overfull, full_at, run_answer, listing, run_exit}
@@ -28,25 +30,25 @@ abbrev pub state : SearchAnswer → List ℕ → State
 state a l = record { so_far = a; list = l }
 
 -- the run goes on while nothing has ended it
-abbrev pub goes_on : Outcome → Bool
-goes_on Complete = true
-goes_on Full = false
-goes_on Spent = false
-goes_on (Refused n) = false
+abbrev pub goes_on : Result Outcome Refusal → Bool
+goes_on (Ok Complete) = true
+goes_on (Ok Full) = false
+goes_on (Ok Spent) = false
+goes_on (Err r) = false
 
 -- a run that goes on, with n hits written and v nodes visited
 abbrev pub on : ℕ → ℕ → List ℕ → State
-on n v l = state (answer Complete n v) l
+on n v l = state (answer (Ok Complete) n v) l
 
 -- the n-th hit w with v nodes visited: it is written, or ends the run where the list is full
 unfoldable pub keep : ℕ → ℕ → ℕ → List ℕ → State
-keep w n v l = cond (ltb n (length l)) (on (n + 1) v (set l n w)) (state (answer Full n v) l)
+keep w n v l = cond (ltb n (length l)) (on (n + 1) v (set l n w)) (state (answer (Ok Full) n v) l)
 
 module _ (hit : Node → Bool) (A : ℕ) where
   -- at the node x, with n hits written and v nodes visited
   unfoldable pub look : Node → ℕ → ℕ → List ℕ → State
   unfolding keep
-  look x n v l = cond (ltb v A) (cond (hit x) (keep x.word n (v + 1) l) (on n (v + 1) l)) (state (answer Spent n v) l)
+  look x n v l = cond (ltb v A) (cond (hit x) (keep x.word n (v + 1) l) (on n (v + 1) l)) (state (answer (Ok Spent) n v) l)
 
   unfoldable pub step : Node → State → State
   unfolding look
@@ -69,7 +71,7 @@ module _ (hit : Node → Bool) (A : ℕ) where
 
   -- ---- one node
   module _ (x : Node) (n v : ℕ) (l : List ℕ) where
-    pub step_spent : A ≤ v → step x (on n v l) ≡ state (answer Spent n v) l
+    pub step_spent : A ≤ v → step x (on n v l) ≡ state (answer (Ok Spent) n v) l
     unfolding step look
     step_spent h = rw (le-ltb v A h)
 
@@ -81,7 +83,7 @@ module _ (hit : Node → Bool) (A : ℕ) where
     unfolding step look keep
     step_hit h m r = rw (lt-ltb v A h, m, lt-ltb n (length l) r)
 
-    pub step_full : v < A → hit x ≡ true → length l ≤ n → step x (on n v l) ≡ state (answer Full n (v + 1)) l
+    pub step_full : v < A → hit x ≡ true → length l ≤ n → step x (on n v l) ≡ state (answer (Ok Full) n (v + 1)) l
     unfolding step look keep
     step_full h m r = rw (lt-ltb v A h, m, le-ltb n (length l) r)
 
@@ -140,7 +142,7 @@ module _ (hit : Node → Bool) (A : ℕ) where
 
   -- no room for one of them
   no_room : (xs : List Node) (a n v L : ℕ) (l : List ℕ) → n + L ≡ length l → A ≡ v + a → L < length (hits hit (take a xs))
-      → runs hit A xs (on n v l) ≡ state (answer Full (length l) (v + full_at hit xs L)) (sets l n (take L (hits hit (take a xs))))
+      → runs hit A xs (on n v l) ≡ state (answer (Ok Full) (length l) (v + full_at hit xs L)) (sets l n (take L (hits hit (take a xs))))
   unfolding runs hits
   no_room [] zero n v L l r h f = absurd (omega arith)
   no_room [] (suc a) n v L l r h f = absurd (omega arith)
@@ -149,12 +151,12 @@ module _ (hit : Node → Bool) (A : ℕ) where
     where
       go : (b : Bool) → hit x ≡ b → (L : ℕ) → n + L ≡ length l → L < length (cond b (x.word ∷ hits hit (take a xs)) (hits hit (take a xs)))
           → ((n v L : ℕ) (l : List ℕ) → n + L ≡ length l → A ≡ v + a → L < length (hits hit (take a xs))
-          → runs hit A xs (on n v l) ≡ state (answer Full (length l) (v + full_at hit xs L)) (sets l n (take L (hits hit (take a xs)))))
+          → runs hit A xs (on n v l) ≡ state (answer (Ok Full) (length l) (v + full_at hit xs L)) (sets l n (take L (hits hit (take a xs)))))
           → runs hit A xs (step hit A x (on n v l))
-          ≡ state (answer Full (length l) (v + full_at hit (x ∷ xs) L)) (sets l n (take L (cond b (x.word ∷ hits hit (take a xs)) (hits hit (take a xs)))))
+          ≡ state (answer (Ok Full) (length l) (v + full_at hit (x ∷ xs) L)) (sets l n (take L (cond b (x.word ∷ hits hit (take a xs)) (hits hit (take a xs)))))
       go true e zero r f next =
           let q : n ≡ length l = omega arith in
-          rw (step_full hit A x n v l (omega arith) e (omega arith), runs-ended hit A xs (state (answer Full n (v + 1)) l) refl, up_first hit x xs e, q)
+          rw (step_full hit A x n v l (omega arith) e (omega arith), runs-ended hit A xs (state (answer (Ok Full) n (v + 1)) l) refl, up_first hit x xs e, q)
       go true e (suc L) r f next =
           rw (step_hit hit A x n v l (omega arith) e (omega arith), up_hit hit x xs L e) (next (n + 1) (v + 1) L (set l n x.word)
           (omega (arith, length-set l n x.word)) (omega arith) (omega arith)
@@ -164,13 +166,13 @@ module _ (hit : Node → Bool) (A : ℕ) where
           ∙ let q : v + 1 + full_at hit xs L ≡ v + suc (full_at hit xs L) = omega arith in rw q)
 
   -- a node is left when the node limit is spent
-  spent_at : (xs : List Node) (n v : ℕ) (l : List ℕ) → 0 < length xs → A ≤ v → runs hit A xs (on n v l) ≡ state (answer Spent n v) l
+  spent_at : (xs : List Node) (n v : ℕ) (l : List ℕ) → 0 < length xs → A ≤ v → runs hit A xs (on n v l) ≡ state (answer (Ok Spent) n v) l
   unfolding runs
   spent_at [] n v l h s = absurd (omega arith)
-  spent_at (x ∷ xs) n v l h s = rw (step_spent hit A x n v l s) (runs-ended hit A xs (state (answer Spent n v) l) refl)
+  spent_at (x ∷ xs) n v l h s = rw (step_spent hit A x n v l s) (runs-ended hit A xs (state (answer (Ok Spent) n v) l) refl)
 
   some-nodes : (xs : List Node) (l : List ℕ) → length (hits hit (take A xs)) ≤ length l → A < length xs
-      → runs hit A xs (on 0 0 l) ≡ state (answer Spent (length (hits hit (take A xs))) A) (sets l 0 (hits hit (take A xs)))
+      → runs hit A xs (on 0 0 l) ≡ state (answer (Ok Spent) (length (hits hit (take A xs))) A) (sets l 0 (hits hit (take A xs)))
   some-nodes xs l r h =
       let ys = take A xs in
       let e : length ys ≡ A = length-take-le A xs (omega arith) in
@@ -198,7 +200,7 @@ runs_answer hit A xs l = ⊎_elim full roomy (dec (ltb (length l) (length (hits 
         ∙ rw (zero-add, at_start (take (length l) (hits hit (take A xs))) l (omega (arith, length-take (length l) (hits hit (take A xs))))))
 
     ends : (b : Bool) → ltb A (length xs) ≡ b → length (hits hit (take A xs)) ≤ length l
-        → runs hit A xs (on 0 0 l) ≡ state (cond b (answer Spent (length (hits hit (take A xs))) A) (answer Complete (length (hits hit (take A xs))) (length xs))) (start_with (hits hit (take A xs)) l)
+        → runs hit A xs (on 0 0 l) ≡ state (cond b (answer (Ok Spent) (length (hits hit (take A xs))) A) (answer (Ok Complete) (length (hits hit (take A xs))) (length xs))) (start_with (hits hit (take A xs)) l)
     ends true s f = some-nodes hit A xs l f (ltb-true _ _ s) ∙ rw (at_start (hits hit (take A xs)) l f)
     ends false s f =
         let g : length xs ≤ A = ltb-false _ _ s in

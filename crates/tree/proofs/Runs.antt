@@ -1,4 +1,6 @@
 -- What every search answers and lists, for every table, every node limit A and every lent list l. Assumes nothing.
+use Rattle.program.specs.declared.Refusal.TheVariants.{InvalidProgram}
+use Rattle.std.specs.Prelude.{Ok, Err}
 use mathlib.Core.Path.{◌≡◌, refl, sym, ap}
 use mathlib.Core.Bool.{Bool, true, false, cond}
 use mathlib.Core.Logic.{◌⊎◌, ⊎_elim}
@@ -17,11 +19,11 @@ use Rattle.program.specs.declared.Program.{Program}
 use Rattle.program.specs.Clauses.{Clause}
 use Rattle.program.specs.Days.{clauses}
 use Rattle.program.specs.Valid.{valid}
-use Rattle.program.specs.Refusals.{lowest}
+use Rattle.program.specs.Refusals.{lowest, numbered}
 use Rattle.semantics.specs.Definitions.{PStable}
 use Rattle.semantics.specs.Interpretations.{rules_of, is_stable, models}
 use Rattle.stable.proofs.Decides.{stable_PStable, PStable_stable}
-use Rattle.program.specs.declared.Outcome.TheVariants.{Complete, Full, Spent, Refused}
+use Rattle.program.specs.declared.Outcome.TheVariants.{Complete, Full, Spent}
 use Rattle.tree.specs.Tree.{Node, Dead, tree, node_count, hits, stable_leaves}
 use Rattle.tree.specs.NodeTest.{dead}
 use Rattle.tree.specs.Answer.{answer, overfull, full_at, run_answer, listing, run_exit, leaf_of, nodes_of, refusal, answer_of, exit_of, listed}
@@ -56,7 +58,7 @@ module _ (hit : Node → Bool) (xs : List Node) (A : ℕ) where
   written_is L = go (ltb L (length (hits hit (take A xs)))) refl (ltb A (length xs))
     where
       go : (b : Bool) → ltb L (length (hits hit (take A xs))) ≡ b → (c : Bool)
-          → (cond b (answer Full L (full_at hit xs L)) (cond c (answer Spent (length (hits hit (take A xs))) A) (answer Complete (length (hits hit (take A xs))) (length xs)))).written
+          → (cond b (answer (Ok Full) L (full_at hit xs L)) (cond c (answer (Ok Spent) (length (hits hit (take A xs))) A) (answer (Ok Complete) (length (hits hit (take A xs))) (length xs)))).written
           ≡ length (take L (hits hit (take A xs)))
       go true e c =
           let h : L < length (hits hit (take A xs)) = ltb-true _ _ e in
@@ -99,8 +101,8 @@ module _ (p : Program) (d A : ℕ) (l : List ℕ) where
   unfolding answer_of exit_of refusal lowest
   accepted v = (rw v, rw v)
 
-  pub refused : valid p ≡ false → (answer_of p d A l ≡ answer (Refused 9) 0 0) × (exit_of p d A l ≡ l)
-  unfolding answer_of exit_of refusal lowest
+  pub refused : valid p ≡ false → (answer_of p d A l ≡ answer (Err InvalidProgram) 0 0) × (exit_of p d A l ≡ l)
+  unfolding answer_of exit_of refusal lowest numbered
   refused v = (rw v, rw v)
 
   pub listed_is : valid p ≡ true → listed p d A l ≡ listing (leaf_of p d) (nodes_of p d) A (length l)

@@ -1,4 +1,5 @@
 -- The counts of nodes that documents 01 and 02 print, the runs around them, and small books that tell the conditions of support apart, computed. Assumes nothing.
+use Rattle.std.specs.Prelude.{Ok}
 use mathlib.Core.Path.{◌≡◌, refl}
 use mathlib.Core.List.{List, [], ◌∷◌}
 use Rattle.program.specs.Clauses.{Clause}
@@ -15,12 +16,12 @@ abbrev fell : List Clause
 fell = clauses_of (book 2 (⟨ 1 · 0 ⟩ ∷ ⟨ 2 · 0 ⟩ ∷ ⟨ 16 · 1 ⟩ ∷ []) [])
 
 -- document 01 prints "complete 1 23"
-pub fell_before : run_answer (is_stable_leaf (violated fell) fell) (tree (violated fell) 2) 33554431 4096 ≡ answer Complete 1 23
+pub fell_before : run_answer (is_stable_leaf (violated fell) fell) (tree (violated fell) 2) 33554431 4096 ≡ answer (Ok Complete) 1 23
 unfolding run_answer nodes violated is_stable_leaf clause_of_values word_by bits_of word_of
 fell_before = refl
 
 -- "The printed sample ends in "complete 1 13"": with one node less it is spent; without a place it is full at the seventh node
-pub fell_complete : run_answer (is_stable_leaf (dead fell) fell) (tree (dead fell) 2) 33554431 4096 ≡ answer Complete 1 13
+pub fell_complete : run_answer (is_stable_leaf (dead fell) fell) (tree (dead fell) 2) 33554431 4096 ≡ answer (Ok Complete) 1 13
 unfolding run_answer nodes dead is_stable_leaf clause_of_values word_by bits_of word_of
 fell_complete = refl
 
@@ -28,11 +29,11 @@ pub fell_listed : listing (is_stable_leaf (dead fell) fell) (tree (dead fell) 2)
 unfolding listing nodes dead is_stable_leaf clause_of_values word_by bits_of word_of
 fell_listed = refl
 
-pub fell_spent : run_answer (is_stable_leaf (dead fell) fell) (tree (dead fell) 2) 12 4096 ≡ answer Spent 1 12
+pub fell_spent : run_answer (is_stable_leaf (dead fell) fell) (tree (dead fell) 2) 12 4096 ≡ answer (Ok Spent) 1 12
 unfolding run_answer nodes dead is_stable_leaf clause_of_values word_by bits_of word_of
 fell_spent = refl
 
-pub fell_full : run_answer (is_stable_leaf (dead fell) fell) (tree (dead fell) 2) 13 0 ≡ answer Full 0 7
+pub fell_full : run_answer (is_stable_leaf (dead fell) fell) (tree (dead fell) 2) 13 0 ≡ answer (Ok Full) 0 7
 unfolding run_answer nodes dead is_stable_leaf clause_of_values word_by bits_of word_of
 fell_full = refl
 
@@ -42,7 +43,7 @@ unfolding run_exit nodes dead is_stable_leaf clause_of_values word_by bits_of wo
 fell_exit = refl
 
 -- node limit 0: spent, with none visited
-pub none_allowed : run_answer (is_stable_leaf (dead fell) fell) (tree (dead fell) 2) 0 4096 ≡ answer Spent 0 0
+pub none_allowed : run_answer (is_stable_leaf (dead fell) fell) (tree (dead fell) 2) 0 4096 ≡ answer (Ok Spent) 0 0
 unfolding run_answer nodes dead is_stable_leaf clause_of_values word_by bits_of word_of
 none_allowed = refl
 

@@ -1,5 +1,5 @@
 -- What a search answers and lists, read off the first A nodes in visiting order. Assumes nothing.
-use Rattle.std.specs.Prelude.{◌≡◌, Bool, not, List, [], ◌∷◌, ◌++◌, ℕ, eqb}
+use Rattle.std.specs.Prelude.{◌≡◌, Bool, not, List, [], ◌∷◌, ◌++◌, ℕ, eqb, Result, Ok, Err}
 use Rattle.std.proofs.Math.Bool.{cond}
 use Rattle.std.proofs.Math.Dec.{ltb}
 use Rattle.std.proofs.Math.ListN.{length, take, drop}
@@ -8,15 +8,16 @@ use Rattle.program.specs.declared.Program.{Program}
 use Rattle.program.specs.Clauses.{Clause}
 use Rattle.program.specs.Days.{clauses}
 use Rattle.program.specs.Valid.{valid}
-use Rattle.program.specs.Refusals.{lowest}
+use Rattle.program.specs.Refusals.{lowest, refusal_of}
 use Rattle.program.specs.declared.Outcome.{Outcome}
-use Rattle.program.specs.declared.Outcome.TheVariants.{Complete, Full, Spent, Refused}
+use Rattle.program.specs.declared.Outcome.TheVariants.{Complete, Full, Spent}
+use Rattle.program.specs.declared.Refusal.{Refusal}
 use Rattle.tree.specs.declared.SearchAnswer.{SearchAnswer}
 use Rattle.tree.specs.Tree.{Node, Dead, tree, is_stable_leaf, hits}
 use Rattle.tree.specs.NodeTest.{dead}
 
 -- "The answer has outcome, models written and nodes visited."
-abbrev pub answer : Outcome → ℕ → ℕ → SearchAnswer
+abbrev pub answer : Result Outcome Refusal → ℕ → ℕ → SearchAnswer
 answer o n v = record { outcome = o; written = n; visited = v }
 
 -- ---- a run over the nodes xs, with the test `hit` of p-stable leaves, the node limit A (document 01's allowance) and a list of L places
@@ -37,8 +38,8 @@ module _ (hit : Node → Bool) (xs : List Node) where
   unfolding overfull full_at hits
   run_answer A L =
       let found = length (hits hit (take A xs)) in
-      cond (overfull L A) (answer Full L (full_at L))
-      (cond (ltb A (length xs)) (answer Spent found A) (answer Complete found (length xs)))
+      cond (overfull L A) (answer (Ok Full) L (full_at L))
+      (cond (ltb A (length xs)) (answer (Ok Spent) found A) (answer (Ok Complete) found (length xs)))
 
   -- the words that are written: as many as the list has places for
   unfoldable pub listing : ℕ → ℕ → List ℕ
@@ -67,7 +68,7 @@ refusal p = lowest (refusals p)
 
 -- the answer for every table, every day, every node limit and every list that is lent; where refused, "counts are 0"
 unfoldable pub answer_of : Program → ℕ → ℕ → List ℕ → SearchAnswer
-answer_of p d A l = cond (eqb (refusal p) 0) (run_answer (leaf_of p d) (nodes_of p d) A (length l)) (answer (Refused (refusal p)) 0 0)
+answer_of p d A l = cond (eqb (refusal p) 0) (run_answer (leaf_of p d) (nodes_of p d) A (length l)) (answer (Err (refusal_of (refusal p))) 0 0)
 
 -- the list at exit; a refusal writes none
 unfoldable pub exit_of : Program → ℕ → ℕ → List ℕ → List ℕ

@@ -1,7 +1,7 @@
 // The tree of a search, and what a run over it answers: definitions and theorems, no function.
 #![tactic(auto)]
 
-use program::Outcome;
+use program::{Outcome, Refusal};
 
 // What the test of a node tells; a node that is not alive is dead.
 #[derive(Clone, Copy)]
@@ -14,7 +14,7 @@ pub enum NodeStatus {
 // What a search answers.
 #[derive(Clone, Copy)]
 pub struct SearchAnswer {
-    pub outcome: Outcome,
+    pub outcome: Result<Outcome, Refusal>,
     pub written: usize,
     pub visited: u64,
 }

@@ -8,14 +8,11 @@ use summary::Summary;
 pub const ANY_DAY: u16 = 0;
 
 pub fn table_of(text: &[u8]) -> Program {
-    let read = reader::read_program(text);
-    read.program
+    reader::read_program(text).program
 }
 
 pub fn read(text: &[u8]) -> Answer {
-    let read = reader::read_program(text);
-    let verdict = read.verdict;
-    answers_made::of_verdict(verdict, 0)
+    answers_made::of_verdict(reader::read_program(text).verdict, 0)
 }
 
 pub fn write(p: Program, out: &mut [u8]) -> Answer {
@@ -24,15 +21,13 @@ pub fn write(p: Program, out: &mut [u8]) -> Answer {
 
 pub fn search(p: Program, day: u16, limit: u64, list: &mut [u32]) -> Answer {
     let a = search::search(p, day, limit, list);
-    let outcome = a.outcome;
-    answers_made::of_outcome(outcome, a.written as u64, a.visited)
+    answers_made::of_outcome(a.outcome, a.written as u64, a.visited)
 }
 
 // The number of nodes of the whole tree.
 pub fn nodes_of(p: Program, day: u16) -> u64 {
     let mut list = [FREE; PLACES];
-    let a = search::search(p, day, ANY, &mut list);
-    a.visited
+    search::search(p, day, ANY, &mut list).visited
 }
 
 // The fixpoint in full room.
@@ -40,12 +35,11 @@ pub fn fixpoint(p: Program, day: u16, list: &mut [u32]) -> Answer {
     let mut work = [0u64; 65536];
     let mut more_work = [0u64; 65536];
     let a = fixpoint::fixpoint(p, day, list, &mut work, &mut more_work);
-    let outcome = a.outcome;
-    answers_made::of_outcome(outcome, a.written as u64, 0)
+    answers_made::of_outcome(a.outcome, a.written as u64, 0)
 }
 
 pub fn check(p: Program, day: u16, w: u32) -> Answer {
-    answers_made::of_checked(checker::check(p, day, w), w as u64)
+    answers_made::of_checked(checker::check(p, day, w), u64::from(w))
 }
 
 pub fn hold(p: Program, head: u32, body: u32, naf: u32, first: u16, last: u16) -> HoldAnswer {

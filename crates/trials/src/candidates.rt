@@ -1,7 +1,7 @@
 // Candidates are put to the check: the lowest words, each stored model and its neighbours, and words outside the book's names.
 use crate::{asking, saying, summaries};
-use answers::{Answer, FREE, PLACES};
-use program::{Program, Verdict};
+use answers::{Answer, FREE, PLACES, Source};
+use program::{Program, Refusal, Verdict};
 use stable::Checked;
 use std::io;
 
@@ -12,14 +12,7 @@ const LOWEST: usize = 64;
 const AROUND: usize = 25;
 
 fn is_listed(words: &[u32], w: u32) -> bool {
-    let mut k: usize = 0;
-    while k < words.len() {
-        if words[k] == w {
-            return true;
-        }
-        k += 1;
-    }
-    false
+    words.iter().any(|x| *x == w)
 }
 
 // The candidate `j`: the lowest words first, then for each stored model the words with one literal more or less, and itself.
@@ -29,26 +22,26 @@ fn candidate(words: &[u32], j: usize) -> u32 {
     }
     let k = (j - LOWEST) / AROUND;
     let b = (j - LOWEST) % AROUND;
-    if words.len() <= k {
-        return FREE;
+    match words.get(k) {
+        Some(w) if b < 24 => *w ^ (1 << b),
+        Some(w) => *w,
+        None => FREE,
     }
-    if b < 24 {
-        return words[k] ^ (1 << b);
-    }
-    words[k]
 }
 
 // Whether an answer other than p-stable can be true of the candidate: a number of a clause, or a smaller subset.
 fn can_be(a: Answer, w: u64, clauses: u64) -> bool {
-    let violated = (a.outcome == answers::VIOLATED) & (a.first < clauses);
-    let smaller = (a.outcome == answers::SMALLER) & (a.first & w == a.first) & (a.first != w);
-    violated | smaller
+    match a.outcome {
+        answers::VIOLATED => a.first < clauses,
+        answers::SMALLER => a.first & w == a.first && a.first != w,
+        _ => false,
+    }
 }
 
 // What is expected of a candidate: p-stable, or what was found where that can be true.
 fn expected_of(found: Answer, w: u64, clauses: u64, stable: bool) -> Answer {
     if stable {
-        return answers_made::of_checked(Checked::Stable, w);
+        return answers_made::of_checked(Ok(Checked::Stable), w);
     }
     if can_be(found, w, clauses) {
         return found;
@@ -59,8 +52,8 @@ fn expected_of(found: Answer, w: u64, clauses: u64, stable: bool) -> Answer {
 // Whether the check calls the candidate p-stable exactly where it should.
 fn agrees_at(rt: &impl Print, p: Program, day: u16, w: u32, stable: bool) -> io::Result<bool> {
     let found = asking::check(p, day, w);
-    let expected = expected_of(found, w as u64, p.clause_count as u64, stable);
-    saying::agree(rt, answers::CHECK, expected, found)
+    let expected = expected_of(found, u64::from(w), p.clause_count as u64, stable);
+    saying::agree(rt, Source::Check, expected, found)
 }
 
 // Whether the check calls each of the words p-stable exactly where it is among those listed.
@@ -71,13 +64,10 @@ pub fn agrees_on(
     words: &[u32],
     listed: &[u32],
 ) -> io::Result<bool> {
-    let mut k: usize = 0;
-    while k < words.len() {
-        let w = words[k];
-        if !agrees_at(rt, p, day, w, is_listed(listed, w))? {
+    for w in words {
+        if !agrees_at(rt, p, day, *w, is_listed(listed, *w))? {
             return Ok(false);
         }
-        k += 1;
     }
     Ok(true)
 }
@@ -86,45 +76,40 @@ pub fn agrees_on(
 fn agrees_inside(rt: &impl Print, p: Program, day: u16, words: &[u32]) -> io::Result<bool> {
     let m = words.len();
     if PLACES < m {
-        return saying::is_number(rt, answers::RECORD, PLACES as u64, m as u64, 0);
+        return saying::is_number(rt, Source::Record, PLACES as u64, m as u64, 0);
     }
-    let last = LOWEST + AROUND * m;
-    let mut j: usize = 0;
-    while j < last {
+    for j in 0..LOWEST + AROUND * m {
         let w = candidate(words, j);
         let stable = is_listed(words, w);
-        if stable | table_fields::is_word(p.atom_count, w) {
-            if !agrees_at(rt, p, day, w, stable)? {
-                return Ok(false);
-            }
+        let asked = stable || table_fields::is_word(p.atom_count, w);
+        if asked && !agrees_at(rt, p, day, w, stable)? {
+            return Ok(false);
         }
-        j += 1;
     }
     Ok(true)
 }
 
 fn is_outside(rt: &impl Print, p: Program, day: u16, w: u32) -> io::Result<bool> {
-    let refused = answers_made::of_checked(Checked::Refused(program::OUTSIDE_WORD), w as u64);
-    saying::agree(rt, answers::CHECK, refused, asking::check(p, day, w))
+    let refused = answers_made::of_checked(Err(Refusal::OutsideWord), u64::from(w));
+    saying::agree(rt, Source::Check, refused, asking::check(p, day, w))
 }
 
 fn sums_up(rt: &impl Print, p: Program, w: u32, verdict: Verdict) -> io::Result<bool> {
-    let list = [0, w];
-    summaries::has_verdict(rt, asking::summarize(p, &list), verdict)
+    summaries::has_verdict(rt, asking::summarize(p, &[0, w]), verdict)
 }
 
 // Refusal 10: the first word with a bit too high, and the last one, by the check and in a list that is summed up.
 fn agrees_outside(rt: &impl Print, p: Program, day: u16) -> io::Result<bool> {
     let atoms = p.atom_count;
     if program::MOST_ATOMS < atoms {
-        return saying::is_number(rt, answers::READER, 12, atoms as u64, 0);
+        return saying::is_number(rt, Source::Reader, 12, atoms as u64, 0);
     }
     let first: u32 = 1 << (2 * atoms);
     Ok(
         is_outside(rt, p, day, first)?
             && is_outside(rt, p, day, FREE)?
-            && sums_up(rt, p, first, Verdict::Refused(program::OUTSIDE_WORD))?
-            && sums_up(rt, p, 3, Verdict::Accepted)?,
+            && sums_up(rt, p, first, Err(Refusal::OutsideWord))?
+            && sums_up(rt, p, 3, Ok(()))?,
     )
 }
 

@@ -20,7 +20,7 @@ mod texts;
 ghost use Rattle.std.specs.Prelude.{◌≡◌, ◌<◌, ◌≤◌, length, IfOk};
 ghost use Rattle.std.specs.Io.{ReadsAtMost};
 
-use answers::{FREE, PLACES};
+use answers::{FREE, PLACES, Source};
 use asking::ANY_DAY;
 use std::io;
 use std::rt::Files;
@@ -60,9 +60,10 @@ enum Stored {
 
 fn tried_if(agrees: bool) -> Tried {
     if agrees {
-        return Tried::Agrees;
+        Tried::Agrees
+    } else {
+        Tried::Differs
     }
-    Tried::Differs
 }
 
 fn ask(rt: &impl Print, family: Family, text: &[u8], words: &[u32]) -> io::Result<Tried> {
@@ -80,34 +81,25 @@ fn ask(rt: &impl Print, family: Family, text: &[u8], words: &[u32]) -> io::Resul
     })
 }
 
-// ---- what is lent
-// Where a part that is lent begins.
-const START: usize = 0;
-
 // ---- records
 fn word_of(n: u64) -> u32 {
-    if 4_294_967_295 < n {
-        return FREE;
-    }
-    n as u32
+    n.min(u64::from(FREE)) as u32
 }
 
 // The numbers of a line as words; how many there are.
 fn read_words(line: &[u8], words: &mut [u32]) -> usize
     ensures { result ≤ length words.new }
 {
-    let mut n: usize = 0;
-    let mut at: usize = 0;
-    while at < line.len() {
-        if words.len() <= n {
+    let mut at = 0;
+    for n in 0..words.len() {
+        if line.len() <= at {
             return n;
         }
         let number = records::number_at(line, at);
         words[n] = word_of(number.value);
-        n += 1;
         at = number.next;
     }
-    n
+    words.len()
 }
 
 // A record that the file's end cuts disagrees.
@@ -119,11 +111,11 @@ fn try_book(
     line: &[u8],
 ) -> io::Result<Tried> {
     if !whole {
-        return Ok(tried_if(saying::is_number(rt, answers::RECORD, 1, 0, 0)?));
+        return Ok(tried_if(saying::is_number(rt, Source::Record, 1, 0, 0)?));
     }
     let mut words = [FREE; PLACES];
     let n = read_words(line, &mut words);
-    ask(rt, family, text, &words[START..n])
+    ask(rt, family, text, &words[..n])
 }
 
 // What a record gives: whether it disagrees, what it counts, and where the next begins.
@@ -137,22 +129,10 @@ struct Step {
 fn step_to(tried: Tried, next: usize) -> Step
     ensures { result.next ≡ next }
 {
-    match tried {
-        Tried::Agrees => Step {
-            differs: false,
-            counts: 1,
-            next: next,
-        },
-        Tried::NotAsked(_) => Step {
-            differs: false,
-            counts: 0,
-            next: next,
-        },
-        Tried::Differs => Step {
-            differs: true,
-            counts: 0,
-            next: next,
-        },
+    Step {
+        differs: matches!(tried, Tried::Differs),
+        counts: u64::from(matches!(tried, Tried::Agrees)),
+        next,
     }
 }
 
@@ -162,16 +142,12 @@ fn try_record(rt: &impl Print, family: Family, file: &[u8], at: usize) -> io::Re
     ensures next_in_bounds { IfOk result (λ step. step.next ≤ length file.now) }
 {
     let r = records::record_at(file, at);
-    let text = r.text;
-    let text_end = r.text_end;
-    let line = r.line;
-    let line_end = r.line_end;
     let tried = try_book(
         rt,
         family,
         r.whole,
-        &file[text..text_end],
-        &file[line..line_end],
+        &file[r.text..r.text_end],
+        &file[r.line..r.line_end],
     )?;
     Ok(step_to(tried, r.next))
 }
@@ -180,23 +156,23 @@ fn print_label(rt: &impl Print, file: &[u8], at: usize) -> io::Result<()>
     requires { at < length file.now }
 {
     let r = records::record_at(file, at);
-    let end = r.label_end;
     saying::print(rt, b", at ")?;
-    saying::print(rt, &file[at..end])?;
+    saying::print(rt, &file[at..r.label_end])?;
     saying::print(rt, b"\n")
 }
 
 // How many records agree; none where one does not.
 fn count_agreeing(rt: &impl Print, family: Family, file: &[u8]) -> io::Result<u64> {
-    let mut at: usize = 0;
+    let mut at = 0;
     let mut n: u64 = 0;
+    // A `while`: each record says where the next begins.
     while at < file.len() {
         let step = try_record(rt, family, file, at)?;
         if step.differs {
             print_label(rt, file, at)?;
             return Ok(0);
         }
-        n = std::num::wrapping_add_u64(n, step.counts);
+        n = n.wrapping_add(step.counts);
         at = step.next;
     }
     Ok(n)

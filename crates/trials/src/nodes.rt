@@ -1,7 +1,7 @@
 // A book is searched against the stored number of its nodes and, for each of its models, how many are visited when it is come to.
 use crate::asking::ANY_DAY;
-use crate::{START, asking, saying};
-use answers::{ANY, Answer, FREE, PLACES};
+use crate::{asking, saying};
+use answers::{ANY, Answer, FREE, PLACES, Source};
 use program::{Outcome, Program};
 use std::io;
 
@@ -14,49 +14,30 @@ fn ends(
     expected: Answer,
 ) -> io::Result<bool> {
     let mut list = [FREE; PLACES];
-    let n = lists::least(lent, PLACES);
-    let found = asking::search(p, ANY_DAY, limit, &mut list[START..n]);
-    saying::agree(rt, answers::SEARCH, expected, found)
+    let n = lent.min(PLACES);
+    let found = asking::search(p, ANY_DAY, limit, &mut list[..n]);
+    saying::agree(rt, Source::Search, expected, found)
 }
 
 // Behind k models comes one with so many nodes visited: the run is full there without a place for it, and spent with one node less.
 fn comes(rt: &impl Print, p: Program, k: usize, visited: u64) -> io::Result<bool> {
-    let before = std::num::wrapping_sub_u64(visited, 1);
-    Ok(
-        ends(
-            rt,
-            p,
-            ANY,
-            k,
-            answers_made::of_outcome(Outcome::Full, k as u64, visited),
-        )? && ends(
-            rt,
-            p,
-            before,
-            PLACES,
-            answers_made::of_outcome(Outcome::Spent, k as u64, before),
-        )?,
-    )
-}
-
-fn wide(n: u32) -> u64 {
-    n as u64
+    let before = visited.wrapping_sub(1);
+    let full = answers_made::of_outcome(Ok(Outcome::Full), k as u64, visited);
+    let spent = answers_made::of_outcome(Ok(Outcome::Spent), k as u64, before);
+    Ok(ends(rt, p, ANY, k, full)? && ends(rt, p, before, PLACES, spent)?)
 }
 
 // The numbers are that of all nodes, then one for each model.
 pub fn agrees(rt: &impl Print, p: Program, numbers: &[u32]) -> io::Result<bool> {
-    let m = numbers.len();
-    if m == 0 {
-        return saying::is_number(rt, answers::RECORD, 1, 0, 0);
-    }
-    let mut k: usize = 1;
-    while k < m {
-        if !comes(rt, p, k - 1, wide(numbers[k]))? {
+    let Some((nodes, visits)) = numbers.split_first() else {
+        return saying::is_number(rt, Source::Record, 1, 0, 0);
+    };
+    for (k, visited) in visits.iter().enumerate() {
+        if !comes(rt, p, k, u64::from(*visited))? {
             return Ok(false);
         }
-        k += 1;
     }
-    let nodes = wide(numbers[0]);
-    let all = answers_made::of_outcome(Outcome::Complete, (m - 1) as u64, nodes);
+    let nodes = u64::from(*nodes);
+    let all = answers_made::of_outcome(Ok(Outcome::Complete), visits.len() as u64, nodes);
     ends(rt, p, nodes, PLACES, all)
 }

@@ -8,10 +8,11 @@ use program::HeldClause;
 
 // ---- the days of a table
 // Whether the days are in order, and both 0 where there are none.
+#[tactic(auto, unfolding(program::specs::Valid::days_fit))]
 fn days_fit(has: bool, first: u16, last: u16) -> bool
     ensures { result ≡ days_fit has first last }
 {
-    (first <= last) & (has | (last == 0))
+    first <= last && (has || last == 0)
 }
 
 // Whether the days of every place fit.
@@ -23,25 +24,25 @@ pub fn days_valid<'a>(
 ) -> bool
     ensures { result ≡ days_valid dated firsts.now lasts.now count }
 {
-    let mut k: usize = 0;
-    while k < program::MOST_CLAUSES {
-        if !days_fit(dated & (k < count), firsts[k], lasts[k]) {
+    for k in 0..program::MOST_CLAUSES {
+        if !days_fit(dated && k < count, firsts[k], lasts[k]) {
             return false;
         }
-        k += 1;
     }
     true
 }
 
 // ---- the separate place
 // Whether it has a clause that may be held, or nothing and is zero.
+#[tactic(auto, unfolding(program::specs::Valid::held_valid))]
 pub fn held_valid(dated: bool, held: HeldClause, count: usize, n: usize) -> bool
     ensures { result ≡ held_valid dated held count n }
 {
     if held.in_use {
-        return valid_clauses::is_clause(n, held.head, held.body, held.naf)
-            & (count < program::MOST_CLAUSES)
-            & days_fit(dated, held.first, held.last);
+        valid_clauses::is_clause(n, held.head, held.body, held.naf)
+            && count < program::MOST_CLAUSES
+            && days_fit(dated, held.first, held.last)
+    } else {
+        held.head == 0 && held.body == 0 && held.naf == 0 && days_fit(false, held.first, held.last)
     }
-    (held.head == 0) & (held.body == 0) & (held.naf == 0) & days_fit(false, held.first, held.last)
 }

@@ -14,10 +14,7 @@ use program::Program;
 pub fn stand_ins(head: u32, body: u32, naf: u32) -> u32
     ensures { (result ≡ stand_ins (clause_of head body naf)) × (result ≤ 64) }
 {
-    if naf == 0 {
-        return 0;
-    }
-    u32::count_ones(head)
+    if naf == 0 { 0 } else { head.count_ones() }
 }
 
 // How many stand-ins the clauses get.
@@ -26,10 +23,8 @@ fn count_stand_ins<'a>(heads: &'a [u32], bodies: &'a [u32], nafs: &'a [u32], cou
     ensures { (result ≡ all_stand_ins (tabulate (clause_at heads.now bodies.now nafs.now) count)) × (result ≤ 4096) }
 {
     let mut n: u32 = 0;
-    let mut k: usize = 0;
-    while k < count {
+    for k in 0..count {
         n += stand_ins(heads[k], bodies[k], nafs[k]);
-        k += 1;
     }
     n
 }

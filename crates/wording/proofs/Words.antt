@@ -1,4 +1,6 @@
 -- A word and numbers behind it: the word, a space and the line of the numbers. Assumes nothing.
+use Rattle.program.specs.declared.Refusal.{Refusal}
+use Rattle.std.specs.Prelude.{Result}
 use mathlib.Core.Path.{◌≡◌, sym, ◌∙◌}
 use mathlib.Core.List.{List, [], ◌∷◌, ◌++◌, append_assoc, map}
 use Prim.Native.Nat.{ℕ, ◌≤◌}
@@ -28,7 +30,7 @@ module _ (w xs : List ℕ) (v : ℕ) where
   unfolding numbered
   numbered_wrote r ys t = rw (worded_is w (v ∷ []) (omega arith)) t
 
-module _ (o : Outcome) (xs : List ℕ) (m v : ℕ) where
+module _ (o : Result Outcome Refusal) (xs : List ℕ) (m v : ℕ) where
   pub last_room : length (last_line o m v) ≤ length xs → Room 2 2 ((outcome_word o ++ 32 ∷ []) ++ values_line (m ∷ v ∷ [])) xs
   unfolding last_line
   last_room h = record { some = omega arith; few = omega arith; room = rw (← worded_is (outcome_word o) (m ∷ v ∷ []) (omega arith)) h }
@@ -36,11 +38,3 @@ module _ (o : Outcome) (xs : List ℕ) (m v : ℕ) where
   pub last_wrote : (r : ℕ) (ys : List ℕ) → Wrote ((outcome_word o ++ 32 ∷ []) ++ values_line (m ∷ v ∷ [])) xs r ys → Wrote (last_line o m v) xs r ys
   unfolding last_line
   last_wrote r ys t = rw (worded_is (outcome_word o) (m ∷ v ∷ []) (omega arith)) t
-
--- the outcome o is p, whose word is w
-module _ (o p : Outcome) (w : List ℕ) (n most : ℕ) (t xs : List ℕ) (e : o ≡ p) (q : outcome_word p ≡ w) where
-  pub outcome_room : Room n most ((outcome_word o ++ 32 ∷ []) ++ t) xs → Room n most ((w ++ 32 ∷ []) ++ t) xs
-  outcome_room h = rw (← q, ← e) h
-
-  pub outcome_wrote : (r : ℕ) (ys : List ℕ) → Wrote ((w ++ 32 ∷ []) ++ t) xs r ys → Wrote ((outcome_word o ++ 32 ∷ []) ++ t) xs r ys
-  outcome_wrote r ys h = rw (e, q) h

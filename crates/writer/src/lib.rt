@@ -11,7 +11,7 @@ ghost use Rattle.text.specs.Render.{book_items, render};
 ghost use Rattle.text.specs.Writing.{Writes};
 ghost use Rattle.lines.specs.Laying.{Room};
 
-use program::Program;
+use program::{Program, Refusal};
 use text::{SPACE, Written};
 
 // A text of more bytes is no book, and no table has one so long.
@@ -60,10 +60,10 @@ pub fn write_program(p: Program, out: &mut [u8]) -> Written
     ensures { Writes p out.old result out.new }
 {
     if !validity::is_valid(p) {
-        return Written::Refused(program::INVALID_PROGRAM);
+        return Err(Refusal::InvalidProgram);
     }
     if out.len() < text_length(p) {
-        return Written::Refused(program::SLICE_TOO_SHORT);
+        return Err(Refusal::SliceTooShort);
     }
-    Written::Length(put_text(p, out))
+    Ok(put_text(p, out))
 }

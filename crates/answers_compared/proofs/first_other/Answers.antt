@@ -1,4 +1,5 @@
-use Prim.Native.Nat.{◌-◌}
+use mathlib.Core.Path.{◌≡◌, ◌∙◌}
+use native.Mathlib.Omega.{arith}
 use Rattle.answers.proofs.Others.{same_start, same_more, other_found, none_other}
 use Rattle.answers_compared.proofs.first_other.Goals as goal
 
@@ -12,4 +13,6 @@ pub loop-k-preserved : goal.loop-k-preserved
 loop-k-preserved c = search same_more
 
 pub returns : goal.returns
-returns c = search none_other
+returns c =
+    let all : 4096 ≡ c.loop-k.k = omega arith in
+    all ∙ none_other _ _ c.loop-k.k c.loop-k.invariant c.loop-k-test.false

@@ -1,6 +1,5 @@
 use Rattle.sets.proofs.Least.{done, hit, start}
 use Rattle.stable.proofs.Checking.{least_is, smaller_is, smaller_not, still_inside, walk_falls, walk_on}
-use Rattle.std.proofs.Common.{◌-◌}
 use Rattle.check_smaller.proofs.least_smaller.Goals as goal
 
 pub loop-j-init : goal.loop-j-init

@@ -1,6 +1,5 @@
 use Rattle.sets.proofs.Least.{done, hit, miss, start}
 use Rattle.stable.proofs.Checking.{tested}
-use Prim.Native.Nat.{◌-◌}
 use Rattle.check_violated.proofs.first_violated.Goals as goal
 
 pub loop-k-init : goal.loop-k-init

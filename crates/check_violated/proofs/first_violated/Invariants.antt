@@ -1,5 +1,4 @@
 -- `check_violated::first_violated` meets its contract: the loop has looked at every clause below k, and none is violated. Assumes nothing.
-use Prim.Native.Nat.{◌-◌}
 use Rattle.sets.proofs.Least.{Searched}
 use Rattle.program.specs.Clauses.{clause_at}
 use Rattle.semantics.specs.Interpretations.{violated_at}
@@ -8,6 +7,3 @@ use Rattle.check_violated.proofs.first_violated.Given as goal
 
 abbrev pub invariant-loop-k : goal.invariant-loop-k
 invariant-loop-k l = Searched (violated_at (tabulate (clause_at l.heads l.bodies l.nafs) l.count) l.by l.w) l.count l.k
-
-abbrev pub decreases-loop-k : goal.decreases-loop-k
-decreases-loop-k l = l.count - l.k

@@ -1,6 +1,5 @@
 use Rattle.sets.proofs.Least.{done, hit, miss, start}
 use Rattle.stable.proofs.Checking.{row_tested}
-use Prim.Native.Nat.{◌-◌}
 use Rattle.check_violated.proofs.first_violated_row.Goals as goal
 
 pub loop-row-init : goal.loop-row-init

@@ -1,5 +1,4 @@
 -- `check_violated::first_violated_row` meets its contract: the loop has looked at every row below `row`, and none of the set is violated. Assumes nothing.
-use Prim.Native.Nat.{◌-◌}
 use Rattle.sets.specs.Words.{bit}
 use Rattle.sets.proofs.Least.{Searched}
 use Rattle.program.specs.Clauses.{clause_at}
@@ -8,6 +7,3 @@ use Rattle.check_violated.proofs.first_violated_row.Given as goal
 
 abbrev pub invariant-loop-row : goal.invariant-loop-row
 invariant-loop-row l = Searched (violated_in (bit l.rows) (clause_at l.heads l.bodies l.nafs) l.w) l.count l.row
-
-abbrev pub decreases-loop-row : goal.decreases-loop-row
-decreases-loop-row l = l.count - l.row

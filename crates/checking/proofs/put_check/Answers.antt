@@ -1,15 +1,9 @@
--- `checking::put_check` meets its contract: one law for each answer of the check. Assumes nothing.
-use Rattle.checking.proofs.Texts.{check_refused, check-violated, check-smaller, check_stable}
+-- `checking::put_check` meets its contract: a refusal is its line, and else the finding is. Assumes nothing.
+use Rattle.checking.proofs.Texts.{check_refused, check_found}
 use Rattle.checking.proofs.put_check.Goals as goal
 
-pub returns-in-Refused : goal.returns-in-Refused
-returns-in-Refused c = search check_refused
+pub returns-in-Ok : goal.returns-in-Ok
+returns-in-Ok c = search check_found
 
-pub returns-in-Violated : goal.returns-in-Violated
-returns-in-Violated c = search check-violated
-
-pub returns-in-Smaller : goal.returns-in-Smaller
-returns-in-Smaller c = search check-smaller
-
-pub returns-in-Stable : goal.returns-in-Stable
-returns-in-Stable c = search check_stable
+pub returns-in-Err : goal.returns-in-Err
+returns-in-Err c = search check_refused

@@ -1,4 +1,3 @@
-use Prim.Native.Nat.{◌-◌}
 use Rattle.clauselines.proofs.Gathering.{gather_start, gather_room, gather_more, gather_done}
 use Rattle.clauselines.proofs.gather.Goals as goal
 

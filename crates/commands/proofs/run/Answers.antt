@@ -8,8 +8,8 @@ returns-then-out-lt-MOST_BYTES c = search no_room
 pub put_command-requires : goal.put_command-requires
 put_command-requires c = search read-ready
 
-pub returns-in-Accepted : goal.returns-in-Accepted
-returns-in-Accepted c = search run_read
+pub returns-in-Ok : goal.returns-in-Ok
+returns-in-Ok c = search run_read
 
-pub returns-in-Refused : goal.returns-in-Refused
-returns-in-Refused c = search run_refused
+pub returns-in-Err : goal.returns-in-Err
+returns-in-Err c = search run_refused

@@ -1,16 +1,17 @@
+use borrow.Author.Rules.{rules}
+use native.Mathlib.Omega.{arith}
 use Rattle.decimal.proofs.Reading.{parse_done, parse_empty, parse_fits, parse_more, parse_not, parse_start, parse_stop, parse_tens_fit}
 use Rattle.sets.proofs.Tests.{via_false}
-use Prim.Native.Nat.{◌-◌}
 use Rattle.decimal.proofs.read_number.Goals as goal
 
-pub returns-then-s-eq0 : goal.returns-then-s-eq0
-returns-then-s-eq0 c = search parse_empty
+pub returns-then-is_empty : goal.returns-then-is_empty
+returns-then-is_empty c = search (parse_empty, rules)
 
-pub returns-then-v-bound : goal.returns-then-v-bound
-returns-then-v-bound c = search parse_not
+pub returns-then-v-gt9 : goal.returns-then-v-gt9
+returns-then-v-gt9 c = search (parse_not, rules)
 
 pub loop-i-init : goal.loop-i-init
-loop-i-init c = search parse_start
+loop-i-init c = parse_start _ _ _ (search rules) c.digit_of-v.ensures (omega arith) (omega arith)
 
 pub returns-then-not-goes_on : goal.returns-then-not-goes_on
 returns-then-not-goes_on c = search (parse_stop, via_false)

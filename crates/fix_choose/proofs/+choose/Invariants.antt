@@ -7,8 +7,5 @@ use Rattle.fix_choose.proofs.+choose.Given as goal
 abbrev pub decreases-choose : goal.decreases-choose
 decreases-choose l = l.count - l.k
 
-abbrev pub invariant-loop-rest : goal.invariant-loop-rest
-invariant-loop-rest l = Following (rule_at l.heads l.bodies) l.count l.i l.k l.j l.initial.wide l.n l.initial.set l.members l.wide l.set l.m l.rest
-
-abbrev pub decreases-loop-rest : goal.decreases-loop-rest
-decreases-loop-rest l = l.rest
+abbrev pub invariant-loop-t : goal.invariant-loop-t
+invariant-loop-t l = Following (rule_at l.heads l.bodies) l.count l.i l.k l.j l.initial.wide l.n l.initial.set l.members l.wide l.set l.m l.t-iterator.rest

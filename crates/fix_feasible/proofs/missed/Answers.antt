@@ -1,16 +1,17 @@
-use borrow.Author.Tests.{eq-eqb, ne_eqb}
-use Prim.Native.Nat.{◌-◌}
-use Rattle.sets.proofs.Lists.{lacks_hit, lacks_more, lacks_none, lacks_start}
+-- `fix_feasible::missed` meets its contract: the library asks the heads in turn. Assumes nothing.
+use borrow.Author.Rules.{rules}
+use borrow.Author.Tests.{tests}
+use lib.ListN.{take}
+use mathlib.Core.Bool.{true, false}
+use mathlib.Core.Path.{◌≡◌}
+use native.Mathlib.Omega.{arith}
+use Rattle.std.proofs.lemmas.Iterator.{YieldsList-from_slice, cases_from_any}
+use Rattle.sets.specs.Words.{apart}
+use Rattle.fix_feasible.proofs.Chains.{any_is}
 use Rattle.fix_feasible.proofs.missed.Goals as goal
 
-pub loop-k-init : goal.loop-k-init
-loop-k-init c = search lacks_start
-
-pub returns-then-v-wide-eq0 : goal.returns-then-v-wide-eq0
-returns-then-v-wide-eq0 c = search (lacks_hit, eq-eqb)
-
-pub loop-k-preserved : goal.loop-k-preserved
-loop-k-preserved c = search (lacks_more, ne_eqb)
-
 pub returns : goal.returns
-returns c = search lacks_none
+returns c =
+    let p = apart c.args.v in
+    any_is p c.args.wide.now c.args.n c.any.result (omega arith) (cases_from_any _ _ _ (λ h. p h ≡ true) (λ h. p h ≡ false) c.any.ensures.ran
+    (YieldsList-from_slice (take c.args.n c.args.wide.now) cc) (λ x q k. search (rules, tests)) (λ x q k. search (rules, tests)))

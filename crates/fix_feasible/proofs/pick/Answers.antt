@@ -2,20 +2,8 @@
 use Rattle.heads.proofs.Rules.{words}
 use Rattle.fix_feasible.proofs.pick.Goals as goal
 
-pub matched-t-requires : goal.matched-t-requires
-matched-t-requires c = search words
-
-pub overflow_shl-t : goal.overflow_shl-t
-overflow_shl-t c = search words
-
-pub overflow_cast-result : goal.overflow_cast-result
-overflow_cast-result c = search words
-
 pub returns-then-s-t-ne0 : goal.returns-then-s-t-ne0
 returns-then-s-t-ne0 c = search words
 
-pub lowest-requires : goal.lowest-requires
-lowest-requires c = search words
-
-pub returns : goal.returns
-returns c = search words
+pub returns-else-t-lt64 : goal.returns-else-t-lt64
+returns-else-t-lt64 c = search words

@@ -1,36 +1,17 @@
-use Prim.Native.Nat.{◌-◌}
-use Rattle.rising.proofs.Inserting.{placing}
+-- `fix_insert::place` meets its contract: the place that the library finds is the rank. Assumes nothing.
+use borrow.Author.Rules.{rules}
+use native.Mathlib.Omega.{arith}
+use lib.Dec.{ltb}
+use lib.ListN.{take, length}
+use lib.Seq.{length-take-le}
+use mathlib.Core.Path.{◌≡◌}
+use Rattle.std.proofs.lemmas.List.Sorted.{IsPartitionPoint-from_clause}
+use Rattle.fix_insert.proofs.Places.{rises, ranked}
 use Rattle.fix_insert.proofs.place.Goals as goal
 
-pub loop-lo-init : goal.loop-lo-init
-loop-lo-init c = search placing
-
-pub overflow_sub-mid : goal.overflow_sub-mid
-overflow_sub-mid c = search placing
-
-pub overflow_add-mid : goal.overflow_add-mid
-overflow_add-mid c = search placing
-
-pub offset_bounds-set-mid : goal.offset_bounds-set-mid
-offset_bounds-set-mid c = search placing
-
-pub bounds-set-mid : goal.bounds-set-mid
-bounds-set-mid c = search placing
-
-pub overflow_add-lo : goal.overflow_add-lo
-overflow_add-lo c = search placing
-
-pub loop-lo-smaller-then-set-mid : goal.loop-lo-smaller-then-set-mid
-loop-lo-smaller-then-set-mid c = search placing
-
-pub loop-lo-preserved-then-set-mid : goal.loop-lo-preserved-then-set-mid
-loop-lo-preserved-then-set-mid c = search placing
-
-pub loop-lo-smaller : goal.loop-lo-smaller
-loop-lo-smaller c = search placing
-
-pub loop-lo-preserved : goal.loop-lo-preserved
-loop-lo-preserved c = search placing
-
 pub returns : goal.returns
-returns c = search placing
+returns c =
+    let l = take c.args.members c.args.set.now in
+    let long : length l ≡ c.args.members = length-take-le c.args.members c.args.set.now c.requires.0 in
+    let point = IsPartitionPoint-from_clause (λ y. ltb y c.args.x) l c.partition_point.result c.partition_point.ensures.partitioned (rises c.args.x l c.requires.1) (λ a r q k. search rules) in
+    (ranked c.args.x l c.partition_point.result c.requires.1 (omega (arith, c.partition_point.ensures.bound)) point, omega (arith, c.partition_point.ensures.bound))

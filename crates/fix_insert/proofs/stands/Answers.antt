@@ -5,5 +5,5 @@ use Rattle.fix_insert.proofs.stands.Goals as goal
 pub returns-then-at-members : goal.returns-then-at-members
 returns-then-at-members c = search inserting
 
-pub returns : goal.returns
-returns c = search inserting
+pub returns-else-at-members : goal.returns-else-at-members
+returns-else-at-members c = search inserting

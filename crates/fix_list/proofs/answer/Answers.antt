@@ -5,5 +5,5 @@ use Rattle.fix_list.proofs.answer.Goals as goal
 pub returns-then-count-places : goal.returns-then-count-places
 returns-then-count-places c = search listed_all
 
-pub returns : goal.returns
-returns c = search listed_some
+pub returns-else-count-places : goal.returns-else-count-places
+returns-else-count-places c = search listed_some

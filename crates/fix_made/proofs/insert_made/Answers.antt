@@ -6,5 +6,5 @@ use Rattle.fix_made.proofs.insert_made.Goals as goal
 pub returns-then-made : goal.returns-then-made
 returns-then-made c = search (one_put, try_whole)
 
-pub returns : goal.returns
-returns c = search (one_not, try_whole)
+pub returns-else-made : goal.returns-else-made
+returns-else-made c = search (one_not, try_whole)

@@ -5,5 +5,5 @@ use Rattle.fix_merge.proofs.above.Goals as goal
 pub returns-then-p-gt0 : goal.returns-then-p-gt0
 returns-then-p-gt0 c = search merging
 
-pub returns : goal.returns
-returns c = search merging
+pub returns-else-p-gt0 : goal.returns-else-p-gt0
+returns-else-p-gt0 c = search merging

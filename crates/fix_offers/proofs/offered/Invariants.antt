@@ -1,10 +1,6 @@
--- `fix_offers::offered` meets its contract: the literals before `k`, joined with those from `k` on, are all. Assumes nothing.
-use Prim.Native.Nat.{◌-◌}
+-- `fix_offers::offered` meets its contract: the literals of the heads so far, joined with those of the rest, are all. Assumes nothing.
 use Rattle.heads.proofs.Loops.{Joining}
 use Rattle.fix_offers.proofs.offered.Given as goal
 
-abbrev pub invariant-loop-k : goal.invariant-loop-k
-invariant-loop-k l = Joining l.wide l.n l.all l.k
-
-abbrev pub decreases-loop-k : goal.decreases-loop-k
-decreases-loop-k l = l.n - l.k
+abbrev pub invariant-loop-head : goal.invariant-loop-head
+invariant-loop-head l = Joining l.wide l.n l.all l.head-index

@@ -1,10 +1,6 @@
 -- `fix_quiet::offered_at` meets its contract: what the clauses before `k` offer, joined with what those from `k` on offer, is all. Assumes nothing.
-use Prim.Native.Nat.{◌-◌}
 use Rattle.closure.proofs.Closing.{Offering}
 use Rattle.fix_quiet.proofs.offered_at.Given as goal
 
 abbrev pub invariant-loop-k : goal.invariant-loop-k
 invariant-loop-k l = Offering l.heads l.bodies l.count l.i l.all l.k
-
-abbrev pub decreases-loop-k : goal.decreases-loop-k
-decreases-loop-k l = l.count - l.k

@@ -1,4 +1,3 @@
-use Prim.Native.Nat.{◌-◌}
 use Rattle.sets.proofs.Tests.{via}
 use Rattle.stages.proofs.Iterating.{iterating, iterate_on, iterate_rest}
 use Rattle.fix_run.proofs.+iterate.Goals as goal

@@ -1,16 +1,17 @@
-use Prim.Native.Nat.{◌-◌}
-use Rattle.sets.proofs.Tests.{via_true, via_false}
-use Rattle.lists.proofs.Loops.{held_start, held_more, whole_not, whole_done}
+-- `fix_satisfied::is_settled` meets its contract: the library asks the members in turn. Assumes nothing.
+use borrow.Author.Rules.{rules}
+use borrow.Author.Tests.{tests}
+use mathlib.Core.Bool.{true, false}
+use mathlib.Core.Path.{◌≡◌}
+use Rattle.std.proofs.lemmas.Iterator.{YieldsList-from_slice, cases_from_all}
+use Rattle.sets.specs.Lists.{tabulate}
+use Rattle.operator.specs.Operator.{rule_at}
+use Rattle.minimal.specs.Minimal.{satisfies}
+use Rattle.fix_satisfied.proofs.Chains.{all_is}
 use Rattle.fix_satisfied.proofs.is_settled.Goals as goal
 
-pub loop-p-init : goal.loop-p-init
-loop-p-init c = search held_start
-
-pub returns-then-not-satisfied : goal.returns-then-not-satisfied
-returns-then-not-satisfied c = search (whole_not, via_false)
-
-pub loop-p-preserved : goal.loop-p-preserved
-loop-p-preserved c = search (held_more, via_true)
-
 pub returns : goal.returns
-returns c = search whole_done
+returns c =
+    let p = satisfies (tabulate (rule_at c.args.heads.now c.args.bodies.now) c.args.count) in
+    all_is p c.args.stage.now c.all.result (cases_from_all _ _ _ (λ w. p w ≡ true) (λ w. p w ≡ false) c.all.ensures.ran (YieldsList-from_slice c.args.stage.now cc)
+    (λ x q k. search (rules, tests)) (λ x q k. search (rules, tests)))

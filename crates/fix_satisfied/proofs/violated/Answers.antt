@@ -1,16 +1,17 @@
-use Prim.Native.Nat.{◌-◌}
-use Rattle.sets.proofs.Lists.{lacks_hit, lacks_more, lacks_none, lacks_start}
-use Rattle.sets.proofs.Tests.{via}
+-- `fix_satisfied::violated` meets its contract: the library asks the clauses in turn. Assumes nothing.
+use borrow.Author.Rules.{rules}
+use borrow.Author.Tests.{tests}
+use mathlib.Core.Bool.{true, false}
+use mathlib.Core.Path.{◌≡◌}
+use native.Mathlib.Nat.{sub-zero}
+use Rattle.std.proofs.lemmas.Iterator.{YieldsList-from_range, cases_from_any}
+use Rattle.operator.specs.Operator.{rule_at}
+use Rattle.minimal.specs.Minimal.{violates}
+use Rattle.fix_satisfied.proofs.Chains.{any_is}
 use Rattle.fix_satisfied.proofs.violated.Goals as goal
 
-pub loop-k-init : goal.loop-k-init
-loop-k-init c = search lacks_start
-
-pub returns-then-violates_at : goal.returns-then-violates_at
-returns-then-violates_at c = search (lacks_hit, via)
-
-pub loop-k-preserved : goal.loop-k-preserved
-loop-k-preserved c = search (lacks_more, via)
-
 pub returns : goal.returns
-returns c = search lacks_none
+returns c =
+    let rule = rule_at c.args.heads.now c.args.bodies.now in
+    any_is rule (violates c.args.w) c.args.count c.any.result (cases_from_any _ _ _ (λ k. violates c.args.w (rule k) ≡ true) (λ k. violates c.args.w (rule k) ≡ false) c.any.ensures.ran
+    (YieldsList-from_range 0 c.args.count c.args.count (cc) (sub-zero c.args.count)) (λ x q k. search (rules, tests)) (λ x q k. search (rules, tests)))

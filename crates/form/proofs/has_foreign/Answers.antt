@@ -1,19 +1,19 @@
-use Prim.Native.Nat.{◌-◌}
-use Rattle.sets.proofs.Tests.{via}
-use Rattle.lists.proofs.Loops.{scan_start, scan_hit, scan_miss, scan_done}
-use Rattle.text.specs.Refusals.{has_foreign}
+-- `form::has_foreign`: the library asks the test of every byte. Assumes nothing.
+use mathlib.Core.Bool.{◌||◌}
+use mathlib.Core.Path.{refl, ◌∙◌}
+use borrow.Author.Rules.{rules}
+use borrow.Author.Tests.{tests}
+use Rattle.std.specs.List.{list_any}
+use Rattle.std.proofs.lemmas.Iterator.{YieldsList-from_slice}
+use Rattle.std.proofs.lemmas.Iterator.Search.{any_from_yields_List}
+use Rattle.std.proofs.lemmas.List.Recursion.{same_from_clauses}
+use Rattle.sets.specs.Lists.{any_of}
+use Rattle.text.specs.Refusals.{is_foreign, has_foreign}
 use Rattle.form.proofs.has_foreign.Goals as goal
 
-pub loop-i-init : goal.loop-i-init
-loop-i-init c = search scan_start
-
-pub returns-then-is_foreign : goal.returns-then-is_foreign
-unfolding has_foreign
-returns-then-is_foreign c = search (scan_hit, via)
-
-pub loop-i-preserved : goal.loop-i-preserved
-loop-i-preserved c = search (scan_miss, via)
-
 pub returns : goal.returns
-unfolding has_foreign
-returns c = search scan_done
+unfolding has_foreign any_of
+returns c =
+    let xs = c.args.text.now in
+    any_from_yields_List is_foreign _ _ _ c.any.ensures.ran (YieldsList-from_slice xs cc) (λ x b q k. search (rules, tests))
+    ∙ same_from_clauses (list_any is_foreign) (any_of is_foreign) (λ x b. is_foreign x || b) refl (λ _ _. refl) (λ _ _. refl) xs

@@ -2,14 +2,14 @@
 use Rattle.held.proofs.Laws.{hold-few, gives_refused, gives-equal, gives_new}
 use Rattle.hold.proofs.hold.Goals as goal
 
-pub returns-then-refusal-ne0 : goal.returns-then-refusal-ne0
-returns-then-refusal-ne0 c = search gives_refused
+pub returns-in-Err : goal.returns-in-Err
+returns-in-Err c = search (gives_refused, c.in-Err.ensures)
 
 pub equal_stands-requires : goal.equal_stands-requires
-equal_stands-requires c = search hold-few
+equal_stands-requires c = search (hold-few, c.in-Ok.ensures)
 
 pub returns-then-equal_stands : goal.returns-then-equal_stands
-returns-then-equal_stands c = search gives-equal
+returns-then-equal_stands c = search (gives-equal, c.in-Ok.ensures)
 
-pub returns : goal.returns
-returns c = search gives_new
+pub returns-else-equal_stands : goal.returns-else-equal_stands
+returns-else-equal_stands c = search (gives_new, c.in-Ok.ensures)

@@ -1,4 +1,3 @@
-use Prim.Native.Nat.{◌-◌}
 use Rattle.sets.proofs.Tests.{via}
 use Rattle.sets.proofs.Lists.{lacks_start, lacks_more}
 use Rattle.held.proofs.Laws.{stands_hit, stands_none}

@@ -1,5 +1,4 @@
 -- `hold_place::equal_stands` meets its contract: no row below k is equal, the loop law of a layout. Assumes nothing.
-use Prim.Native.Nat.{◌-◌}
 use Rattle.sets.proofs.Lists.{Lacks}
 use Rattle.program.specs.Clauses.{row_at, is_equal_row}
 use Rattle.program.specs.Held.{held_row}
@@ -7,6 +6,3 @@ use Rattle.hold_place.proofs.equal_stands.Given as goal
 
 abbrev pub invariant-loop-k : goal.invariant-loop-k
 invariant-loop-k l = Lacks (row_at l.p) l.p.clause_count (is_equal_row (held_row l.held)) 0 l.k
-
-abbrev pub decreases-loop-k : goal.decreases-loop-k
-decreases-loop-k l = l.count - l.k

@@ -1,12 +1,9 @@
--- `holding::put_hold` meets its contract: one law for each answer. Assumes nothing.
-use Rattle.holding.proofs.Texts.{hold_new, hold-equal, hold_refused}
+-- `holding::put_hold` meets its contract: a refusal is its line, and else the status is. Assumes nothing.
+use Rattle.holding.proofs.Texts.{hold_taken, hold_refused}
 use Rattle.holding.proofs.put_hold.Goals as goal
 
-pub returns-in-New : goal.returns-in-New
-returns-in-New c = search hold_new
+pub returns-in-Ok : goal.returns-in-Ok
+returns-in-Ok c = search hold_taken
 
-pub returns-in-Equal : goal.returns-in-Equal
-returns-in-Equal c = search hold-equal
-
-pub returns-in-Refused : goal.returns-in-Refused
-returns-in-Refused c = search hold_refused
+pub returns-in-Err : goal.returns-in-Err
+returns-in-Err c = search hold_refused

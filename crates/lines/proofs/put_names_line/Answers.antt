@@ -1,4 +1,3 @@
-use Prim.Native.Nat.{◌-◌}
 use borrow.Author.Rules.{rules}
 use Rattle.lines.proofs.Laying.{names_laid, laid_start, laid_from, laid_room, laid_fits, laid_more, laid_done}
 use Rattle.lines.proofs.put_names_line.Goals as goal
@@ -12,8 +11,8 @@ slice_bounds-put_name_item-count c = search laid_from
 pub slice_bounds-put_name_item-start : goal.slice_bounds-put_name_item-start
 slice_bounds-put_name_item-start c = search laid_from
 
-pub put_name_item-k-requires : goal.put_name_item-k-requires
-put_name_item-k-requires c = (search rules, search laid_room)
+pub put_name_item-at-requires : goal.put_name_item-at-requires
+put_name_item-at-requires c = (search rules, search laid_room)
 
 pub overflow_add-at : goal.overflow_add-at
 overflow_add-at c = search laid_fits

@@ -1,5 +1,4 @@
 -- `lines::put_values_line`: the loop keeps `Laid`: the first `i` items of the line stand there. Assumes nothing.
-use Prim.Native.Nat.{◌-◌}
 use lib.ListN.{take}
 use Rattle.text.specs.Lines.{values_line}
 use Rattle.lines.specs.Laying.{item, number_at}
@@ -8,6 +7,3 @@ use Rattle.lines.proofs.put_values_line.Given as goal
 
 abbrev pub invariant-loop-i : goal.invariant-loop-i
 invariant-loop-i l = Laid (item (number_at l.values) l.n) l.n (values_line (take l.n l.values)) l.initial.out l.at l.out l.i
-
-abbrev pub decreases-loop-i : goal.decreases-loop-i
-decreases-loop-i l = l.n - l.i

@@ -5,5 +5,5 @@ use Rattle.lines.proofs.separator_of.Goals as goal
 pub returns-then-i-n : goal.returns-then-i-n
 returns-then-i-n c = search between
 
-pub returns : goal.returns
-returns c = search behind_last
+pub returns-else-i-n : goal.returns-else-i-n
+returns-else-i-n c = search behind_last

@@ -1,4 +1,3 @@
-use Prim.Native.Nat.{◌-◌}
 use borrow.Author.Rules.{rules}
 use Rattle.lines.proofs.Laying.{laid_start, laid_from, laid_room, laid_fits, laid_more, laid_done}
 use Rattle.listings.proofs.Models.{models_laid}
@@ -13,8 +12,8 @@ slice_bounds-put_model_line-count c = search laid_from
 pub slice_bounds-put_model_line-start : goal.slice_bounds-put_model_line-start
 slice_bounds-put_model_line-start c = search laid_from
 
-pub put_model_line-l-requires : goal.put_model_line-l-requires
-put_model_line-l-requires c = search (laid_room, rules)
+pub put_model_line-at-requires : goal.put_model_line-at-requires
+put_model_line-at-requires c = search (laid_room, rules)
 
 pub overflow_add-at : goal.overflow_add-at
 overflow_add-at c = search laid_fits

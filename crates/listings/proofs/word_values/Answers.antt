@@ -1,12 +1,8 @@
-use Prim.Native.Nat.{◌-◌}
-use Rattle.lists.proofs.Filling.{fill_start, fill_more, fill_done}
+-- `listings::word_values`: each place is given by a call. Assumes nothing.
+use borrow.Author.Rules.{rules}
+use Rattle.program.specs.Values.{value_in}
+use Rattle.lines.proofs.Made.{made}
 use Rattle.listings.proofs.word_values.Goals as goal
 
-pub loop-i-init : goal.loop-i-init
-loop-i-init c = search fill_start
-
-pub loop-i-preserved : goal.loop-i-preserved
-loop-i-preserved c = search fill_more
-
 pub returns : goal.returns
-returns c = search fill_done
+returns c = made _ _ (value_in c.args.w) (λ i y q k. search rules) _ 0 12 c.from_fn.ensures.items

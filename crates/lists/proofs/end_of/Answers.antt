@@ -1,5 +1,4 @@
-use Rattle.lists.proofs.Loops.{sought, sought_done, sought_hit, sought_miss}
-use Prim.Native.Nat.{◌-◌}
+use Rattle.lists.proofs.Loops.{sought, sought_end, sought_hit, sought_miss}
 use Rattle.lists.proofs.end_of.Goals as goal
 
 pub loop-i-init : goal.loop-i-init
@@ -12,4 +11,4 @@ pub loop-i-preserved : goal.loop-i-preserved
 loop-i-preserved c = search sought_miss
 
 pub returns : goal.returns
-returns c = search sought_done
+returns c = search sought_end

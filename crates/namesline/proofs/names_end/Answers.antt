@@ -13,5 +13,5 @@ overflow_sub-result c = search words_fit
 pub returns-then-ends_dated : goal.returns-then-ends_dated
 returns-then-ends_dated c = search end_dated
 
-pub returns : goal.returns
-returns c = search end_undated
+pub returns-else-ends_dated : goal.returns-else-ends_dated
+returns-else-ends_dated c = search end_undated

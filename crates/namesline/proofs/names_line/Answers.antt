@@ -1,4 +1,3 @@
-use Prim.Native.Nat.{◌-◌}
 use Rattle.namesline.proofs.Items.{naming_start, naming_more, naming_done}
 use Rattle.namesline.proofs.names_line.Goals as goal
 

@@ -5,5 +5,5 @@ use Rattle.records.proofs.behind.Goals as goal
 pub returns-then-length-end : goal.returns-then-length-end
 returns-then-length-end c = search behind_end
 
-pub returns : goal.returns
-returns c = search behind_next
+pub returns-else-length-end : goal.returns-else-length-end
+returns-else-length-end c = search behind_next

@@ -11,10 +11,10 @@ pub enum_told-1 : goal.enum_told-1
 unfolding value_of
 enum_told-1 c = search rules
 
-pub returns-in-Number : goal.returns-in-Number
+pub returns-in-Some : goal.returns-in-Some
 unfolding value_of
-returns-in-Number c = search rules
+returns-in-Some c = search rules
 
-pub returns-in-Nothing : goal.returns-in-Nothing
+pub returns-in-None : goal.returns-in-None
 unfolding value_of
-returns-in-Nothing c = search rules
+returns-in-None c = search rules

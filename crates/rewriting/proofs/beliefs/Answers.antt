@@ -3,4 +3,4 @@ use Rattle.rewriting.proofs.Becoming.{beliefs_are}
 use Rattle.rewriting.proofs.beliefs.Goals as goal
 
 pub returns : goal.returns
-returns c = search beliefs_are
+returns c = rw c.from.ensures (search beliefs_are)

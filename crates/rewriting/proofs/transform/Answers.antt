@@ -1,4 +1,3 @@
-use Prim.Native.Nat.{◌-◌}
 use Rattle.rewriting.proofs.Rewriting.{rewriting_bodies, rewriting_done, rewriting_heads, rewriting_start, rewriting_step, row_takes}
 use Rattle.rewriting.proofs.transform.Goals as goal
 

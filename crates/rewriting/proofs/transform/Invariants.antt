@@ -1,11 +1,7 @@
 -- The loop keeps that what the clauses from `k` on become is still to come, their stand-ins from `s` on. Assumes nothing.
-use Prim.Native.Nat.{◌-◌}
 use Rattle.program.specs.Clauses.{clause_at}
 use Rattle.rewriting.proofs.Rewriting.{Rewriting}
 use Rattle.rewriting.proofs.transform.Given as goal
 
 abbrev pub invariant-loop-k : goal.invariant-loop-k
 invariant-loop-k l = Rewriting l.m (clause_at l.heads l.bodies l.nafs) l.count l.initial.hs l.initial.bs l.s l.n l.k l.hs l.bs
-
-abbrev pub decreases-loop-k : goal.decreases-loop-k
-decreases-loop-k l = l.count - l.k

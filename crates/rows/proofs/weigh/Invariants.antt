@@ -4,6 +4,3 @@ use Rattle.rows.proofs.weigh.Given as goal
 
 abbrev pub invariant-loop-i : goal.invariant-loop-i
 invariant-loop-i l = Weighing l.values l.n l.initial.holds l.initial.zero l.i l.holds l.zero l.head l.body l.naf
-
-abbrev pub decreases-loop-i : goal.decreases-loop-i
-decreases-loop-i l = l.i

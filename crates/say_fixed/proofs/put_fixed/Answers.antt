@@ -2,8 +2,8 @@
 use Rattle.say_fixed.proofs.Texts.{fixed_refused_lem, fixed-ended}
 use Rattle.say_fixed.proofs.put_fixed.Goals as goal
 
-pub returns-in-Refused : goal.returns-in-Refused
-returns-in-Refused c = search fixed_refused_lem
+pub returns-in-Err : goal.returns-in-Err
+returns-in-Err c = search fixed_refused_lem
 
-pub returns-in_default : goal.returns-in_default
-returns-in_default c = search fixed-ended
+pub returns-in-Ok : goal.returns-in-Ok
+returns-in-Ok c = search fixed-ended

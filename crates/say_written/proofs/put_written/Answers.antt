@@ -4,8 +4,8 @@ use Rattle.program.proofs.Validity.{typed}
 use Rattle.say_written.proofs.Written.{text_wrote, never_refused}
 use Rattle.say_written.proofs.put_written.Goals as goal
 
-pub returns-in-Length : goal.returns-in-Length
-returns-in-Length c = search (text_wrote, typed, rules)
+pub returns-in-Ok : goal.returns-in-Ok
+returns-in-Ok c = search (text_wrote, typed, rules)
 
-pub returns-in-Refused : goal.returns-in-Refused
-returns-in-Refused c = search (never_refused, typed, rules)
+pub returns-in-Err : goal.returns-in-Err
+returns-in-Err c = search (never_refused, typed, rules)

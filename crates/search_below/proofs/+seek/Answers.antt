@@ -22,49 +22,29 @@ leaf_stable-requires-clause-w_value t c = search leaf_live
 pub returns-then-leaf_stable : goal.returns-then-leaf_stable
 returns-then-leaf_stable t c = search seek_leaf
 
-pub returns-then-k-eq0 : goal.returns-then-k-eq0
-returns-then-k-eq0 t c = search seek_unstable
+pub returns-else-leaf_stable : goal.returns-else-leaf_stable
+returns-else-leaf_stable t c = search seek_unstable
 
 pub overflow_sub-reach : goal.overflow_sub-reach
-overflow_sub-reach t c = search (bit_fits, word_fits)
+overflow_sub-reach t c = search bit_fits
 
 pub overflow_sub-play : goal.overflow_sub-play
 overflow_sub-play t c = search and_le_l
 
 pub seek-first-requires : goal.seek-first-requires
-seek-first-requires t c = (search rules, (search (at_first, at_second), (search rules, search (rows_first, rows-second))))
+seek-first-requires t c = (search rules, (search at_first, (search rules, search rows_first)))
 
 pub returns-then-first : goal.returns-then-first
 returns-then-first t c = search seek_first
 
 pub overflow_add-w : goal.overflow_add-w
-overflow_add-w t c = search (word_fits, bit_fits)
+overflow_add-w t c = search word_fits
 
 pub overflow_sub-play-2 : goal.overflow_sub-play-2
 overflow_sub-play-2 t c = search and_le_l
 
 pub seek-requires : goal.seek-requires
-seek-requires t c = (
-  search rules,
-  (
-    search (at_second, at_first),
-    (
-      search rules,
-      search (
-        rows-second,
-        rows_first,
-        c.requires.at_node,
-        c.requires.columns,
-        c.requires.handed,
-        c.node_dead.ensures,
-        c.if-node_dead.false,
-        c.if-k-eq0.false,
-        c.next_bit-bit.ensures,
-        c.mentions.ensures,
-      ),
-    ),
-  ),
-)
+seek-requires t c = (search rules, (search at_second, (search rules, search rows-second)))
 
 pub returns : goal.returns
 returns t c = search seek_second_lem

@@ -1,6 +1,5 @@
 -- `search_below::seek_second` meets its contract: the rows in play at the node, and from them what its second child is handed. Assumes nothing.
 use lib.Bits.{and_le_l}
-use borrow.Author.Rules.{rules}
 use Rattle.seek.proofs.Handing.{second_one, second_word, second_fits, second_at, second-handed, second-sought}
 use Rattle.search_below.proofs.seek_second.Goals as goal
 

@@ -2,8 +2,8 @@
 use Rattle.seek.proofs.Visits.{tick_spent, tick_one}
 use Rattle.search_below.proofs.tick.Goals as goal
 
-pub returns-then-v-node_limit : goal.returns-then-v-node_limit
-returns-then-v-node_limit c = search tick_spent
+pub returns-then-visited-node_limit : goal.returns-then-visited-node_limit
+returns-then-visited-node_limit c = search tick_spent
 
 pub returns : goal.returns
 returns c = search tick_one

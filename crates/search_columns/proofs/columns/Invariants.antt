@@ -1,11 +1,7 @@
 -- `search_columns::columns` meets its contract: the columns of the literals below `literal` are made. Assumes nothing.
-use Prim.Native.Nat.{◌-◌}
 use Rattle.columns.proofs.Filling.{Filling}
 use Rattle.columns.proofs.Making.{OfLiteral}
 use Rattle.search_columns.proofs.columns.Given as goal
 
 abbrev pub invariant-loop-literal : goal.invariant-loop-literal
 invariant-loop-literal l = Filling 24 24 48 (OfLiteral l.heads l.bodies l.nafs l.count) l.literal l.columns
-
-abbrev pub decreases-loop-literal : goal.decreases-loop-literal
-decreases-loop-literal l = 24 - l.literal

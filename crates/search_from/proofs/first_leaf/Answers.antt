@@ -1,4 +1,3 @@
-use Prim.Native.Nat.{◌-◌}
 use Rattle.node.proofs.Descending.{handed_root}
 use Rattle.seek.proofs.Handing.{placed_root, at_root}
 use Rattle.seek.proofs.Climbing.{all-nodes, no_nodes, climb_start, climb_skip, climb_has, climb_second, climb_found, climb_fits, climb_next, climb_done}
@@ -22,8 +21,8 @@ returns-then-last-from c = search no_nodes
 pub loop-k-init : goal.loop-k-init
 loop-k-init c = search climb_start
 
-pub loop-k-preserved-then-next-here-eq0 : goal.loop-k-preserved-then-next-here-eq0
-loop-k-preserved-then-next-here-eq0 c = search climb_skip
+pub loop-k-preserved-then-next-k-eq0 : goal.loop-k-preserved-then-next-k-eq0
+loop-k-preserved-then-next-k-eq0 c = search climb_skip
 
 pub overflow_sub-next : goal.overflow_sub-next
 overflow_sub-next c = search climb_has

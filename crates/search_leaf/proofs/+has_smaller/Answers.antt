@@ -1,4 +1,5 @@
 use borrow.Author.Rules.{rules}
+use mathlib.Core.Path.{◌∙◌}
 use Rattle.leaf.proofs.Subsets.{branch_cut, branch_end, branch_out, branch_in}
 use Rattle.leaf.proofs.Asking.{asked_of_all, literal-small, literal_fits, literal_top, literal_highest, literal_within, literal_falls, out_handed, in_handed}
 use Rattle.search_leaf.proofs.+has_smaller.Goals as goal
@@ -22,10 +23,10 @@ pub has_smaller-requires : goal.has_smaller-requires
 has_smaller-requires t c = (search literal_falls, (search rules, search (out_handed, literal_top, literal_highest)))
 
 pub returns-then-has_smaller : goal.returns-then-has_smaller
-returns-then-has_smaller t c = search (branch_out, literal_highest)
+returns-then-has_smaller t c = c.if-has_smaller.true ∙ search (branch_out, literal_highest)
 
-pub has_smaller-requires-2 : goal.has_smaller-requires-2
-has_smaller-requires-2 t c = (search literal_falls, (search rules, search (in_handed, literal_top, literal_highest)))
+pub has_smaller-requires-else-has_smaller : goal.has_smaller-requires-else-has_smaller
+has_smaller-requires-else-has_smaller t c = (search literal_falls, (search rules, search (in_handed, literal_top, literal_highest)))
 
-pub returns : goal.returns
-returns t c = search (branch_in, literal_highest)
+pub returns-else-has_smaller : goal.returns-else-has_smaller
+returns-else-has_smaller t c = search (branch_in, literal_highest)

@@ -1,5 +1,4 @@
 -- `search_leaf::leaf_stable` meets its contract by `leaf_tested`: of all subsets none is smaller. Assumes nothing.
-use borrow.Author.Rules.{rules}
 use Rattle.leaf.proofs.Subsets.{leaf_tested}
 use Rattle.leaf.proofs.Asking.{all-handed}
 use Rattle.search_leaf.proofs.leaf_stable.Goals as goal

@@ -1,4 +1,3 @@
-use Prim.Native.Nat.{◌-◌}
 use borrow.Author.Rules.{rules}
 use Rattle.search_models.proofs.Turns.{turn_start, turn_next, turn_below, turn_falls, turn_none, turn_spent, turn_full}
 use Rattle.search_models.proofs.search_clauses.Goals as goal

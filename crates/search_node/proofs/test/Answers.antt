@@ -1,5 +1,4 @@
 -- `search_node::test` meets its contract: one law for each answer. Assumes nothing.
-use borrow.Author.Rules.{rules}
 use Rattle.node.proofs.Asking.{test_violated, test_settled, test_unsupported, test_alive}
 use Rattle.search_node.proofs.test.Goals as goal
 

@@ -4,6 +4,3 @@ use Rattle.search_play.proofs.play_at.Given as goal
 
 abbrev pub invariant-loop-literal : goal.invariant-loop-literal
 invariant-loop-literal l = Going l.columns l.root l.top l.k l.w l.play l.literal
-
-abbrev pub decreases-loop-literal : goal.decreases-loop-literal
-decreases-loop-literal l = l.literal

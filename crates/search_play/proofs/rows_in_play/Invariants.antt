@@ -1,5 +1,4 @@
 -- `search_play::rows_in_play` meets its contract: below i the rows in play are gathered. Assumes nothing.
-use Prim.Native.Nat.{◌-◌}
 use Rattle.sets.proofs.Gathering.{Gathering}
 use Rattle.columns.specs.Play.{in_play}
 use Rattle.leaf.specs.Packed.{packed_at}
@@ -7,6 +6,3 @@ use Rattle.search_play.proofs.rows_in_play.Given as goal
 
 abbrev pub invariant-loop-i : goal.invariant-loop-i
 invariant-loop-i l = Gathering (λ k. in_play l.reach l.w (packed_at l.table k)) l.count l.i l.rows
-
-abbrev pub decreases-loop-i : goal.decreases-loop-i
-decreases-loop-i l = l.count - l.i

@@ -1,18 +1,14 @@
 use Rattle.literals.proofs.Stepping.{step_start, step_hit, step_next, step_done}
-use Rattle.literals.proofs.Literals.{low_less}
 use Rattle.search_rows.proofs.some_rules_out.Goals as goal
 
-pub loop-left-init : goal.loop-left-init
-loop-left-init c = search step_start
+pub loop-row-init : goal.loop-row-init
+loop-row-init c = rw (c.into_iter-row-iterator.ensures.into_iter_gives, c.members-row-items.ensures) (search step_start)
 
 pub returns-then-rules_out : goal.returns-then-rules_out
-returns-then-rules_out c = search step_hit
+returns-then-rules_out c = let s = c.in-Some.ensures.steps in search (step_hit, s.some, s.lowest)
 
-pub loop-left-smaller : goal.loop-left-smaller
-loop-left-smaller c = search low_less
-
-pub loop-left-preserved : goal.loop-left-preserved
-loop-left-preserved c = search step_next
+pub loop-row-preserved : goal.loop-row-preserved
+loop-row-preserved c = let s = c.in-Some.ensures.steps in rw s.others (search (step_next, s.some, s.lowest))
 
 pub returns : goal.returns
-returns c = search step_done
+returns c = let s = c.in-None.ensures.steps in search (step_done, s.0)

@@ -4,8 +4,5 @@ use Rattle.leaf.specs.Packed.{packed_at}
 use Rattle.leaf.specs.Leaf.{rules_out}
 use Rattle.search_rows.proofs.some_rules_out.Given as goal
 
-abbrev pub invariant-loop-left : goal.invariant-loop-left
-invariant-loop-left l = Stepping (λ i. rules_out l.by l.w l.reach (packed_at l.table i)) l.rows l.left
-
-abbrev pub decreases-loop-left : goal.decreases-loop-left
-decreases-loop-left l = l.left
+abbrev pub invariant-loop-row : goal.invariant-loop-row
+invariant-loop-row l = Stepping (λ i. rules_out l.by l.w l.reach (packed_at l.table i)) l.rows l.row-iterator.rest

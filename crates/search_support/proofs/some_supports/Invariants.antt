@@ -4,8 +4,5 @@ use Rattle.leaf.specs.Packed.{packed_at}
 use Rattle.node.specs.Node.{supports_alone}
 use Rattle.search_support.proofs.some_supports.Given as goal
 
-abbrev pub invariant-loop-left : goal.invariant-loop-left
-invariant-loop-left l = Stepping (λ i. supports_alone l.w l.bit (packed_at l.table i)) l.rows l.left
-
-abbrev pub decreases-loop-left : goal.decreases-loop-left
-decreases-loop-left l = l.left
+abbrev pub invariant-loop-row : goal.invariant-loop-row
+invariant-loop-row l = Stepping (λ i. supports_alone l.w l.bit (packed_at l.table i)) l.rows l.row-iterator.rest

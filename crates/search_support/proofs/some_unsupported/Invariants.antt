@@ -3,8 +3,5 @@ use Rattle.leaf.specs.Packed.{packed_at}
 use Rattle.node.proofs.Asking.{Lacking}
 use Rattle.search_support.proofs.some_unsupported.Given as goal
 
-abbrev pub invariant-loop-left : goal.invariant-loop-left
-invariant-loop-left l = Lacking (packed_at l.table) l.count l.k l.w l.play l.left l.rows
-
-abbrev pub decreases-loop-left : goal.decreases-loop-left
-decreases-loop-left l = l.left
+abbrev pub invariant-loop-literal : goal.invariant-loop-literal
+invariant-loop-literal l = Lacking (packed_at l.table) l.count l.k l.w l.play l.literal-iterator.rest l.rows

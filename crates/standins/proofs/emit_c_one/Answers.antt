@@ -1,20 +1,16 @@
 use borrow.Author.Rules.{rules}
-use Rattle.fix_push.proofs.Walk.{walk_bodies, walk_done, walk_heads, walk_literal}
+use Rattle.fix_push.proofs.Walk.{walk_bodies, walk_done, walk_heads}
 use Rattle.fix_push.proofs.Emitting.{run_room, run_start, run_step}
-use Rattle.literals.proofs.Literals.{low_less}
 use Rattle.standins.proofs.emit_c_one.Goals as goal
 
-pub loop-rest-init : goal.loop-rest-init
-loop-rest-init c = search run_start
+pub loop-t-init : goal.loop-t-init
+loop-t-init c = rw (c.into_iter-t-iterator.ensures.into_iter_gives, c.members-t-items.ensures) (search run_start)
 
 pub push_c-n-requires : goal.push_c-n-requires
-push_c-n-requires c = search (walk_literal, run_room, rules)
+push_c-n-requires c = let s = c.in-Some.ensures.steps in search (run_room, rules, s.some, s.lowest.place)
 
-pub loop-rest-smaller : goal.loop-rest-smaller
-loop-rest-smaller c = search low_less
-
-pub loop-rest-preserved : goal.loop-rest-preserved
-loop-rest-preserved c = search run_step
+pub loop-t-preserved : goal.loop-t-preserved
+loop-t-preserved c = let s = c.in-Some.ensures.steps in rw s.others (search (run_step, s.some, s.lowest.place))
 
 pub shape_of-hs : goal.shape_of-hs
 shape_of-hs c = search walk_heads
@@ -23,4 +19,4 @@ pub shape_of-bs : goal.shape_of-bs
 shape_of-bs c = search walk_bodies
 
 pub returns : goal.returns
-returns c = search walk_done
+returns c = let s = c.in-None.ensures.steps in search (walk_done, s.0)

@@ -1,23 +1,19 @@
 use borrow.Author.Rules.{rules}
-use Rattle.fix_push.proofs.Walk.{walk_bodies, walk_done, walk_heads, walk_literal, walk_place, walk_start}
+use Rattle.fix_push.proofs.Walk.{walk_bodies, walk_done, walk_heads, walk_place, walk_start}
 use Rattle.fix_push.proofs.Emitting.{d_room, d_step}
-use Rattle.literals.proofs.Literals.{low_less}
 use Rattle.standins.proofs.emit_d.Goals as goal
 
-pub loop-rest-init : goal.loop-rest-init
-loop-rest-init c = search walk_start
+pub loop-t-init : goal.loop-t-init
+loop-t-init c = rw (c.into_iter-t-iterator.ensures.into_iter_gives, c.members-t-items.ensures) (search walk_start)
 
 pub emit_d_one-n-requires : goal.emit_d_one-n-requires
-emit_d_one-n-requires c = search (walk_literal, walk_place, d_room, rules)
+emit_d_one-n-requires c = let s = c.in-Some.ensures.steps in search (walk_place, d_room, rules, s.some, s.lowest.place)
 
 pub overflow_add-p : goal.overflow_add-p
-overflow_add-p c = search (walk_place, rules)
+overflow_add-p c = let s = c.in-Some.ensures.steps in search (walk_place, rules, s.some)
 
-pub loop-rest-smaller : goal.loop-rest-smaller
-loop-rest-smaller c = search low_less
-
-pub loop-rest-preserved : goal.loop-rest-preserved
-loop-rest-preserved c = search d_step
+pub loop-t-preserved : goal.loop-t-preserved
+loop-t-preserved c = let s = c.in-Some.ensures.steps in rw s.others (search (d_step, s.some, s.lowest.place))
 
 pub shape_of-hs : goal.shape_of-hs
 shape_of-hs c = search walk_heads
@@ -26,4 +22,4 @@ pub shape_of-bs : goal.shape_of-bs
 shape_of-bs c = search walk_bodies
 
 pub returns : goal.returns
-returns c = search walk_done
+returns c = let s = c.in-None.ensures.steps in search (walk_done, s.0)

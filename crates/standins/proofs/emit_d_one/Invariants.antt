@@ -3,8 +3,5 @@ use Rattle.transform.specs.Transform.{clause_d}
 use Rattle.fix_push.proofs.Walk.{Walk}
 use Rattle.standins.proofs.emit_d_one.Given as goal
 
-abbrev pub invariant-loop-rest : goal.invariant-loop-rest
-invariant-loop-rest l = Walk (clause_d (record { literal = l.t; at = l.p })) l.head l.s l.initial.hs l.initial.bs l.at l.rest l.q l.hs l.bs l.n
-
-abbrev pub decreases-loop-rest : goal.decreases-loop-rest
-decreases-loop-rest l = l.rest
+abbrev pub invariant-loop-u : goal.invariant-loop-u
+invariant-loop-u l = Walk (clause_d (record { literal = l.t; at = l.p })) l.head l.s l.initial.hs l.initial.bs l.at l.u-iterator.rest l.q l.hs l.bs l.n

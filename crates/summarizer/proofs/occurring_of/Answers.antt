@@ -1,12 +1,8 @@
-use Rattle.lists.proofs.Filling.{fill_done, fill_more, fill_start}
-use Prim.Native.Nat.{◌-◌}
+-- `summarizer::occurring_of` meets its contract: each place is given by a call. Assumes nothing.
+use borrow.Author.Rules.{rules}
+use Rattle.summary.specs.Summary.{shown_at}
+use Rattle.summary_values.proofs.Answered.{made}
 use Rattle.summarizer.proofs.occurring_of.Goals as goal
 
-pub loop-i-init : goal.loop-i-init
-loop-i-init c = search fill_start
-
-pub loop-i-preserved : goal.loop-i-preserved
-loop-i-preserved c = search fill_more
-
 pub returns : goal.returns
-returns c = search fill_done
+returns c = made _ _ (shown_at c.args.n c.args.words.now) (λ i y q k. search rules) _ 0 12 c.from_fn.ensures.items

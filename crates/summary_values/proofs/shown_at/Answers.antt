@@ -5,5 +5,5 @@ use Rattle.summary_values.proofs.shown_at.Goals as goal
 pub returns-then-i-n : goal.returns-then-i-n
 returns-then-i-n c = search shown_in
 
-pub returns : goal.returns
-returns c = search shown_out
+pub returns-else-i-n : goal.returns-else-i-n
+returns-else-i-n c = search shown_out

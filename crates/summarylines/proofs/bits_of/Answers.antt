@@ -1,16 +1,9 @@
-use Prim.Native.Nat.{◌-◌}
-use Rattle.lists.proofs.Filling.{fill_start, fill_more, fill_done}
+-- `summarylines::bits_of`: each place is given by a call. Assumes nothing.
+use borrow.Author.Rules.{rules}
+use Rattle.lines.proofs.Made.{made}
 use Rattle.summarylines.specs.Summary.{bit_at}
 use Rattle.summarylines.proofs.bits_of.Goals as goal
 
-pub loop-i-init : goal.loop-i-init
-unfolding bit_at
-loop-i-init c = search fill_start
-
-pub loop-i-preserved : goal.loop-i-preserved
-unfolding bit_at
-loop-i-preserved c = search fill_more
-
 pub returns : goal.returns
 unfolding bit_at
-returns c = search fill_done
+returns c = made _ _ (bit_at c.args.k c.args.shown.now) (λ i y q k. search rules) _ 0 12 c.from_fn.ensures.items

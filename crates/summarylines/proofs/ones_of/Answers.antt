@@ -1,16 +1,9 @@
-use Prim.Native.Nat.{◌-◌}
-use Rattle.lists.proofs.Filling.{fill_start, fill_more, fill_done}
+-- `summarylines::ones_of`: each place is given by a call. Assumes nothing.
+use borrow.Author.Rules.{rules}
+use Rattle.lines.proofs.Made.{made}
 use Rattle.summarylines.specs.Summary.{flag_at}
 use Rattle.summarylines.proofs.ones_of.Goals as goal
 
-pub loop-i-init : goal.loop-i-init
-unfolding flag_at
-loop-i-init c = search fill_start
-
-pub loop-i-preserved : goal.loop-i-preserved
-unfolding flag_at
-loop-i-preserved c = search fill_more
-
 pub returns : goal.returns
 unfolding flag_at
-returns c = search fill_done
+returns c = made _ _ (flag_at c.args.flags.now) (λ i y q k. search rules) _ 0 12 c.from_fn.ensures.items

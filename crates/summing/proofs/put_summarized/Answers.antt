@@ -2,8 +2,8 @@
 use Rattle.summing.proofs.Texts.{summed_wrote, summed_refused}
 use Rattle.summing.proofs.put_summarized.Goals as goal
 
-pub returns-in-Accepted : goal.returns-in-Accepted
-returns-in-Accepted c = search summed_wrote
+pub returns-in-Ok : goal.returns-in-Ok
+returns-in-Ok c = search summed_wrote
 
-pub returns-in-Refused : goal.returns-in-Refused
-returns-in-Refused c = search summed_refused
+pub returns-in-Err : goal.returns-in-Err
+returns-in-Err c = search summed_refused

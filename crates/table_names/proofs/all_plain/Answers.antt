@@ -1,16 +1,13 @@
-use Rattle.lists.proofs.Loops.{held_more, held_start, whole_done, whole_not}
-use Rattle.sets.proofs.Tests.{via_true, via_false}
-use Prim.Native.Nat.{◌-◌}
+-- `table_names::all_plain` meets its contract: the library asks the test of every byte. Assumes nothing.
+use borrow.Author.Rules.{rules}
+use borrow.Author.Tests.{tests}
+use Rattle.std.proofs.lemmas.Iterator.{YieldsList-from_slice}
+use Rattle.std.proofs.lemmas.Iterator.Search.{all_from_yields_List}
+use Rattle.program.specs.Names.{is_plain}
+use Rattle.table_names.proofs.Chains.{every_all}
 use Rattle.table_names.proofs.all_plain.Goals as goal
 
-pub loop-i-init : goal.loop-i-init
-loop-i-init c = search held_start
-
-pub returns-then-not-is_plain : goal.returns-then-not-is_plain
-returns-then-not-is_plain c = search (whole_not, via_false)
-
-pub loop-i-preserved : goal.loop-i-preserved
-loop-i-preserved c = search (held_more, via_true)
-
 pub returns : goal.returns
-returns c = search whole_done
+returns c =
+    every_all is_plain c.args.s.now c.all.result
+    (all_from_yields_List is_plain _ _ _ c.all.ensures.ran (YieldsList-from_slice c.args.s.now cc) (λ x b q k. search (rules, tests)))

@@ -1,11 +1,7 @@
--- `text_row::row_of` keeps `Rowed`: the numbers of the items below `at` stand in the row, and with those of the items that are left they are the line's. Assumes nothing.
-use Prim.Native.Nat.{◌+◌, ◌-◌}
-use lib.ListN.{length}
+-- `text_row::row_of` keeps `Rowed`: the numbers of the items so far stand in the row. Assumes nothing.
+use mathlib.Core.List.{map}
 use Rattle.text_row.proofs.Rows.{Rowed}
 use Rattle.text_row.proofs.row_of.Given as goal
 
-abbrev pub invariant-loop-at : goal.invariant-loop-at
-invariant-loop-at l = Rowed l.line l.at l.count l.values
-
-abbrev pub decreases-loop-at : goal.decreases-loop-at
-decreases-loop-at l = length l.line + 1 - l.at
+abbrev pub invariant-loop-item : goal.invariant-loop-item
+invariant-loop-item l = Rowed (map (λ x. x.now) l.yielded) l.count l.values

@@ -1,16 +1,10 @@
-use Prim.Native.Nat.{◌-◌}
-use Rattle.lists.proofs.Filling.{fill_start, fill_more, fill_done}
-use Rattle.program.specs.Values.{clause_values}
+-- `text_row_lines::clause_values`: each place is given by a call. Assumes nothing.
+use borrow.Author.Rules.{rules}
+use Rattle.program.specs.Clauses.{clause_of}
+use Rattle.program.specs.Values.{clause_value, clause_values}
+use Rattle.lines.proofs.Made.{made}
 use Rattle.text_row_lines.proofs.clause_values.Goals as goal
-
-pub loop-i-init : goal.loop-i-init
-unfolding clause_values
-loop-i-init c = search fill_start
-
-pub loop-i-preserved : goal.loop-i-preserved
-unfolding clause_values
-loop-i-preserved c = search fill_more
 
 pub returns : goal.returns
 unfolding clause_values
-returns c = search fill_done
+returns c = made _ _ (clause_value (clause_of c.args.head c.args.body c.args.naf)) (λ i y q k. search rules) _ 0 12 c.from_fn.ensures.items

@@ -30,13 +30,13 @@ put_values_line-b-requires c =
     record {
       some = omega arith;
       few = omega arith;
-      room = on_room _ _ _ _ _ _ (values_go _ _ _ _ _ room.some (ap not c.if-not-dated.false)) room _ _ c.put_clause_line-a.ensures;
+      room = rw (c.from.ensures, c.from-2.ensures) (on_room _ _ _ _ _ _ (values_go _ _ _ _ _ room.some (ap not c.if-not-dated.false)) room _ _ c.put_clause_line-a.ensures);
     }
 
 pub returns : goal.returns
 returns c =
     let room = c.requires in
-    on_wrote _ _ _ _ _ _ (values_go _ _ _ _ _ room.some (ap not c.if-not-dated.false)) room _ _ c.put_clause_line-a.ensures _ _ c.put_values_line-b.ensures
+    on_wrote _ _ _ _ _ _ (values_go _ _ _ _ _ room.some (ap not c.if-not-dated.false)) room _ _ c.put_clause_line-a.ensures _ _ (rw (c.from.ensures, c.from-2.ensures) at c.put_values_line-b.ensures)
 
 pub overflow_add-result : goal.overflow_add-result
 overflow_add-result c = search (wrote_fits, returns c, rules)

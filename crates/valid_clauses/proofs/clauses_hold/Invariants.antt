@@ -1,5 +1,4 @@
 -- `valid_clauses::clauses_hold` meets its contract: all clauses below k pass, the loop law of a layout. Assumes nothing.
-use Prim.Native.Nat.{◌-◌}
 use Rattle.sets.proofs.Lists.{Kept}
 use Rattle.program.specs.Clauses.{clause_at}
 use Rattle.program.specs.Valid.{is_clause}
@@ -7,6 +6,3 @@ use Rattle.valid_clauses.proofs.clauses_hold.Given as goal
 
 abbrev pub invariant-loop-k : goal.invariant-loop-k
 invariant-loop-k l = Kept (clause_at l.heads l.bodies l.nafs) l.count (is_clause l.n) l.k
-
-abbrev pub decreases-loop-k : goal.decreases-loop-k
-decreases-loop-k l = l.count - l.k

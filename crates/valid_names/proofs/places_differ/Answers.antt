@@ -1,21 +1,11 @@
-use Prim.Native.Nat.{◌-◌}
 use Rattle.program.proofs.NineRules.{laws}
 use Rattle.valid_names.proofs.places_differ.Goals as goal
 
 pub loop-i-init : goal.loop-i-init
 loop-i-init c = search laws
 
-pub repeated-requires : goal.repeated-requires
-repeated-requires c = search laws
-
 pub returns-then-repeated : goal.returns-then-repeated
 returns-then-repeated c = search laws
-
-pub overflow_add-i : goal.overflow_add-i
-overflow_add-i c = search laws
-
-pub loop-i-smaller : goal.loop-i-smaller
-loop-i-smaller c = search laws
 
 pub loop-i-preserved : goal.loop-i-preserved
 loop-i-preserved c = search laws

@@ -8,11 +8,5 @@ literal_count-m-requires c = search names-few
 pub count_stand_ins-stands-requires : goal.count_stand_ins-stands-requires
 count_stand_ins-stands-requires c = search columns
 
-pub overflow_add-result : goal.overflow_add-result
-overflow_add-result c = search columns
-
-pub overflow_add-result-2 : goal.overflow_add-result-2
-overflow_add-result-2 c = search columns
-
 pub returns : goal.returns
 returns c = search counted

@@ -6,5 +6,5 @@ use Rattle.vocabulary.proofs.stand_ins.Goals as goal
 pub returns-then-naf-eq0 : goal.returns-then-naf-eq0
 returns-then-naf-eq0 c = search (no_stand_ins, rules)
 
-pub returns : goal.returns
-returns c = search (counted-stand_ins, ones_most)
+pub returns-else-naf-eq0 : goal.returns-else-naf-eq0
+returns-else-naf-eq0 c = search (counted-stand_ins, ones_most)

@@ -1,2 +1,0 @@
--- What the routines of a matching lean on.
-pub mod Rules

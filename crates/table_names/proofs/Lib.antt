@@ -1,0 +1,2 @@
+-- The laws of the tests of this crate.
+pub mod Chains
