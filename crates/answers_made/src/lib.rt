@@ -2,14 +2,12 @@
 #![tactic(auto)]
 
 ghost use Rattle.std.specs.Prelude.{◌≡◌};
-ghost use Rattle.answers.specs.Answers.{answer, of_verdict, of_outcome, of_written, of_checked, of_held, of_cleared};
-ghost use Rattle.program.specs.Refusals.{number};
+ghost use Rattle.answers.specs.Answers.{answer, by_number, of_verdict, of_outcome, of_written, of_checked, of_held, of_cleared};
 
 use answers::Answer;
 use held::{ClearStatus, HoldStatus};
-use program::{Outcome, Refusal, Verdict};
+use program::{Outcome, Refusal};
 use stable::Checked;
-use text::Written;
 
 pub fn made(outcome: u64, first: u64, second: u64) -> Answer
     ensures { result ≡ answer outcome first second }
@@ -22,40 +20,51 @@ pub fn made(outcome: u64, first: u64, second: u64) -> Answer
 }
 
 // The number of a refusal, with two numbers beside it.
-fn refused(refusal: Refusal, first: u64, second: u64) -> Answer
-    ensures { result ≡ answer (number refusal) first second }
+fn refused(number: u8, first: u64, second: u64) -> Answer
+    ensures { result ≡ answer number first second }
 {
-    made(u64::from(u8::from(refusal)), first, second)
+    made(u64::from(number), first, second)
+}
+
+// An answer with the number of its refusal.
+#[tactic(auto, unfolding(answers::specs::Answers::by_number))]
+pub fn by_number<T: Copy>(answer: Result<T, Refusal>) -> Result<T, u8>
+    ensures { result ≡ by_number answer }
+{
+    match answer {
+        Ok(found) => Ok(found),
+        Err(refusal) => Err(u8::from(refusal)),
+    }
 }
 
 // ---- what calls answer
 // A verdict, with a number beside it.
 #[tactic(auto, unfolding(answers::specs::Answers::of_verdict))]
-pub fn of_verdict(verdict: Verdict, beside: u64) -> Answer
+pub fn of_verdict(verdict: Result<(), u8>, beside: u64) -> Answer
     ensures { result ≡ of_verdict verdict beside }
 {
     match verdict {
         Ok(()) => made(answers::ACCEPTED, beside, 0),
-        Err(refusal) => refused(refusal, beside, 0),
+        Err(number) => refused(number, beside, 0),
     }
 }
 
 // How a run that lists models ended, with the models written and the nodes visited.
 #[tactic(auto, unfolding(answers::specs::Answers::of_outcome))]
-pub fn of_outcome(outcome: Result<Outcome, Refusal>, written: u64, visited: u64) -> Answer
+pub fn of_outcome(outcome: Result<Outcome, u8>, written: u64, visited: u64) -> Answer
     ensures { result ≡ of_outcome outcome written visited }
 {
     match outcome {
         Ok(Outcome::Complete) => made(answers::COMPLETE, written, visited),
         Ok(Outcome::Full) => made(answers::FULL, written, visited),
         Ok(Outcome::Spent) => made(answers::SPENT, written, visited),
-        Err(refusal) => refused(refusal, written, visited),
+        Err(number) => refused(number, written, visited),
     }
 }
 
 // The length of a text that was written.
 #[tactic(auto, unfolding(answers::specs::Answers::of_written))]
-pub fn of_written(written: Written) -> Answer
+pub fn of_written(written: Result<usize, u8>) -> Answer
     ensures { result ≡ of_written written }
 {
     match written {
@@ -66,11 +75,11 @@ pub fn of_written(written: Written) -> Answer
 
 // What the check finds of a candidate, and the candidate.
 #[tactic(auto, unfolding(answers::specs::Answers::of_checked))]
-pub fn of_checked(checked: Result<Checked, Refusal>, candidate: u64) -> Answer
+pub fn of_checked(checked: Result<Checked, u8>, candidate: u64) -> Answer
     ensures { result ≡ of_checked checked candidate }
 {
     match checked {
-        Err(refusal) => refused(refusal, 0, candidate),
+        Err(number) => refused(number, 0, candidate),
         Ok(Checked::Violated(k)) => made(answers::VIOLATED, u64::from(k), candidate),
         Ok(Checked::Smaller(j)) => made(answers::SMALLER, u64::from(j), candidate),
         Ok(Checked::Stable) => made(answers::STABLE, 0, candidate),
@@ -79,7 +88,7 @@ pub fn of_checked(checked: Result<Checked, Refusal>, candidate: u64) -> Answer
 
 // What holding a clause finds.
 #[tactic(auto, unfolding(answers::specs::Answers::of_held))]
-pub fn of_held(status: Result<HoldStatus, Refusal>) -> Answer
+pub fn of_held(status: Result<HoldStatus, u8>) -> Answer
     ensures { result ≡ of_held status }
 {
     match status {
@@ -91,7 +100,7 @@ pub fn of_held(status: Result<HoldStatus, Refusal>) -> Answer
 
 // Whether a held clause was kept or let go.
 #[tactic(auto, unfolding(answers::specs::Answers::of_cleared))]
-pub fn of_cleared(status: Result<ClearStatus, Refusal>) -> Answer
+pub fn of_cleared(status: Result<ClearStatus, u8>) -> Answer
     ensures { result ≡ of_cleared status }
 {
     match status {

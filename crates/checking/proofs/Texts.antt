@@ -1,5 +1,6 @@
 -- What `check` prints: the room for it, and that it is the text of the call's answer. Assumes nothing.
 use Rattle.program.specs.declared.Refusal.{Refusal}
+use Rattle.program.specs.Refusals.{number}
 use Rattle.std.specs.Prelude.{Result, Ok, Err}
 use mathlib.Core.Path.{◌≡◌}
 use mathlib.Core.List.{List, [], ◌∷◌, ◌++◌}
@@ -36,9 +37,9 @@ module _ (c : Checked) (xs : List ℕ) (r : ℕ) (ys : List ℕ) where
   finds_stable e h = rw e h
 
 module _ (p : Program) (t w : ℕ) (c : Result Checked Refusal) (s : Checks p t w c) (xs : List ℕ) (r : ℕ) (ys : List ℕ) where
-  pub check_refused : (q : Refusal) → c ≡ Err q → Wrote (refused_line q) xs r ys → Wrote (check_text t w p) xs r ys
+  pub check_refused : (q : Refusal) (k : ℕ) → c ≡ Err q → k ≡ number q → Wrote (refused_line k) xs r ys → Wrote (check_text t w p) xs r ys
   unfolding check_text checked_line
-  check_refused q e h = rw (← s.answer, e) h
+  check_refused q k e n h = rw (← s.answer, e, ← n) h
 
   pub check_found : (d : Checked) → c ≡ Ok d → Wrote (finding_line d) xs r ys → Wrote (check_text t w p) xs r ys
   unfolding check_text checked_line

@@ -6,6 +6,7 @@ use Rattle.wording.specs.Printed.{numbered, refused_line}
 use Rattle.stable.specs.declared.Checked.{Checked}
 use Rattle.stable.specs.declared.Checked.TheVariants.{Violated, Smaller, Stable}
 use Rattle.program.specs.declared.Refusal.{Refusal}
+use Rattle.program.specs.Refusals.{number}
 use Rattle.stable.specs.Check as checked
 
 -- ---- check WORD: "`violated K`, `smaller J` or `stable`"
@@ -26,7 +27,7 @@ finding_line Stable = line_of (stable_word ∷ [])
 
 unfoldable pub checked_line : Result Checked Refusal → List ℕ
 unfolding finding_line
-checked_line (Err r) = refused_line r
+checked_line (Err r) = refused_line (number r)
 checked_line (Ok c) = finding_line c
 
 unfoldable pub check_text : ℕ → ℕ → Program → List ℕ

@@ -37,6 +37,6 @@ pub fn put_check(p: Program, day: u16, word: u32, out: &mut [u8]) -> usize
 {
     match checker::check(p, day, word) {
         Ok(finding) => put_finding(finding, out),
-        Err(refusal) => printing::put_refused(refusal, out),
+        Err(refusal) => printing::put_refused(u8::from(refusal), out),
     }
 }

@@ -28,7 +28,7 @@ pub fn run(
     let program = read.program;
     match verdict {
         Ok(()) => say_command::put_command(program, day, command, numbers, bytes, out),
-        Err(refusal) => printing::put_refused(refusal, out),
+        Err(refusal) => printing::put_refused(u8::from(refusal), out),
     }
 }
 

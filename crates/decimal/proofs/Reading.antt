@@ -18,15 +18,15 @@ use Rattle.decimal.specs.Decimal.{decimal, parsed_of, digit_of, goes_on}
 use Rattle.decimal.proofs.Laws.{decimal_one, decimal_more, by_tens, length_more, decimal_long, decimal_injective, number_hit, number_none}
 
 -- ---- digits
-digit_low : (x : ℕ) → x < 48 → 10 ≡ digit_of x
+pub digit_low : (x : ℕ) → x < 48 → 10 ≡ digit_of x
 unfolding digit_of
 digit_low x h = rw (lt-leb 48 x h)
 
-digit_high : (x : ℕ) → 57 < x → 10 ≡ digit_of x
+pub digit_high : (x : ℕ) → 57 < x → 10 ≡ digit_of x
 unfolding digit_of
 digit_high x h = rw (lt-leb x 57 h, and-false)
 
-digit_is : (x : ℕ) → 48 ≤ x → x ≤ 57 → x - 48 ≡ digit_of x
+pub digit_is : (x : ℕ) → 48 ≤ x → x ≤ 57 → x - 48 ≡ digit_of x
 unfolding digit_of
 digit_is x h l = rw (le-leb 48 x h, le-leb x 57 l)
 
@@ -39,11 +39,11 @@ byte_of x h = ⊎_elim
     (λ l. ⊎_elim (λ (g : 57 < x). absurd (omega (arith, digit_high x g))) (λ g. omega (arith, digit_is x l g)) (lt_or_ge 57 x))
     (lt_or_ge x 48)
 
-over_bound : (v d bound : ℕ) → bound < d → false ≡ goes_on v d bound
+pub over_bound : (v d bound : ℕ) → bound < d → false ≡ goes_on v d bound
 unfolding goes_on
 over_bound v d bound h = rw (lt-leb (10 * v + d) bound (omega arith), and-false)
 
-goes : (v d bound : ℕ) → d ≤ bound → leb 1 v && ltb d 10 && leb v ((bound - d) / 10) ≡ goes_on v d bound
+pub goes : (v d bound : ℕ) → d ≤ bound → leb 1 v && ltb d 10 && leb v ((bound - d) / 10) ≡ goes_on v d bound
 unfolding goes_on
 goes v d bound h = ap (λ (b : Bool). leb 1 v && ltb d 10 && b) (⊎_elim
     (λ (l : (bound - d) / 10 < v). rw (lt-leb v ((bound - d) / 10) l, lt-leb (10 * v + d) bound (omega arith)))

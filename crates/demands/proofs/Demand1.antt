@@ -187,9 +187,9 @@ every_call : (c : Call) → (told c).promised → Answers (told c)
 unfolding told rises numbers_known numbered reading.refusal write_refusal checking.refusal summing.refusal searching.refusal fixing.refusal fixing.refused summary_with refused_summary hold_refusal clear_refusal keep_of release_of
 every_call (read b r) e = answers (told (read b r)) refl refl
     (λ z. ap (λ x. x.verdict) (e ∙ trip.taken b z))
-    (λ d. ap (λ x. x.verdict) (e ∙ trip.refused b d))
+    (λ d. ap (λ x. x.verdict) (e ∙ (trip.refused b d).0))
     (λ d x m. absurd m) (λ d x m. absurd m)
-    (λ d. subst (λ x. Zeros (numbers_of x.program)) (sym (e ∙ trip.refused b d)) zero_table_lem)
+    (λ d. subst (λ x. Zeros (numbers_of x.program)) (sym (e ∙ (trip.refused b d).0)) zero_table_lem)
     (λ x m. absurd m)
 every_call (write p o r) e = answers (told (write p o r)) refl refl
     (λ z. ap verdict_of (e.answer ∙ (writings.accepted p o.entry z).0))

@@ -21,7 +21,7 @@ fn fixpoint(p: Program, list: &mut [u32], one: usize, other: usize) -> Answer {
     let m = one.min(ROOM);
     let n = other.min(ROOM);
     let a = fixpoint::fixpoint(p, DAY, list, &mut first[..m], &mut second[..n]);
-    answers_made::of_outcome(a.outcome, a.written as u64, 0)
+    answers_made::of_outcome(answers_made::by_number(a.outcome), a.written as u64, 0)
 }
 
 // Whether the fixpoint answers as expected with so much room in each working slice; a refusal leaves the list as it was.

@@ -21,7 +21,10 @@ fn is_zero_table(p: Program) -> bool {
 
 pub fn agrees(rt: &impl Print, text: &[u8], refusal: u64) -> io::Result<bool> {
     let read = reader::read_program(text);
-    let found = answers_made::of_verdict(read.verdict, u64::from(is_zero_table(read.program)));
+    let found = answers_made::of_verdict(
+        answers_made::by_number(read.verdict),
+        u64::from(is_zero_table(read.program)),
+    );
     let expected = answers_made::made(refusal, u64::from(refusal != 0), 0);
     saying::agree(rt, Source::Reader, expected, found)
 }

@@ -12,7 +12,7 @@ pub fn agrees(rt: &impl Print, text: &[u8], largest: u64) -> io::Result<bool> {
         return saying::is_enough(rt, Source::Record, 1, 0);
     }
     let taken = answers_made::of_outcome(Ok(Outcome::Complete), ANY, 0);
-    let refused = answers_made::of_outcome(Err(Refusal::TooLittleRoom), 0, 0);
+    let refused = answers_made::of_outcome(Err(u8::from(Refusal::TooLittleRoom)), 0, 0);
     Ok(
         asking::fixpoint_ends(rt, p, room, room, taken)?
             && asking::fixpoint_ends(rt, p, room - 1, room, refused)?

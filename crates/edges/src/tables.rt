@@ -92,19 +92,25 @@ fn forged(text: &[u8], field: u64, at: usize, value: u64) -> Program {
 
 // ---- the calls that take it
 fn check(p: Program) -> Answer {
-    answers_made::of_checked(checker::check(p, DAY, 0), 0)
+    answers_made::of_checked(answers_made::by_number(checker::check(p, DAY, 0)), 0)
 }
 
 fn search_ends(rt: &impl Print, p: Program, refused: Answer) -> io::Result<bool> {
     let mut list = [FREE; PLACES];
     let a = search::search(p, DAY, ANY, &mut list);
-    let found = answers_made::of_outcome(a.outcome, a.written as u64, a.visited);
+    let found = answers_made::of_outcome(
+        answers_made::by_number(a.outcome),
+        a.written as u64,
+        a.visited,
+    );
     Ok(saying::agree(rt, Source::Search, refused, found)? && saying::is_untouched(rt, &list)?)
 }
 
 fn write_ends(rt: &impl Print, p: Program, refused: Answer) -> io::Result<bool> {
     let mut out = [FREE_BYTE; 4096];
-    let found = answers_made::of_written(writer::write_program(p, &mut out));
+    let found = answers_made::of_written(answers_made::by_number(writer::write_program(
+        p, &mut out,
+    )));
     Ok(
         saying::agree(rt, Source::Writer, refused, found)?
             && saying::is_enough(
@@ -118,7 +124,7 @@ fn write_ends(rt: &impl Print, p: Program, refused: Answer) -> io::Result<bool> 
 
 fn summary_ends(rt: &impl Print, p: Program, refused: Answer) -> io::Result<bool> {
     let s = summarizer::summarize(p, &[FREE]);
-    let found = answers_made::of_verdict(s.verdict, 0);
+    let found = answers_made::of_verdict(answers_made::by_number(s.verdict), 0);
     saying::agree(rt, Source::Summary, refused, found)
 }
 
@@ -158,7 +164,7 @@ fn is_given_back(rt: &impl Print, source: Source, p: Program, q: Program) -> io:
 // The days are reversed, which a dated table refuses by a higher number.
 fn hold_ends(rt: &impl Print, p: Program, refused: Answer) -> io::Result<bool> {
     let a = hold::hold(p, 1, 0, 0, 1, 0);
-    let found = answers_made::of_held(a.status);
+    let found = answers_made::of_held(answers_made::by_number(a.status));
     Ok(
         saying::agree(rt, Source::Hold, refused, found)?
             && is_given_back(rt, Source::Hold, p, a.program)?,
@@ -172,7 +178,7 @@ fn clear_ends(
     p: Program,
     expected: Answer,
 ) -> io::Result<bool> {
-    let found = answers_made::of_cleared(a.status);
+    let found = answers_made::of_cleared(answers_made::by_number(a.status));
     Ok(saying::agree(rt, source, expected, found)? && is_given_back(rt, source, p, a.program)?)
 }
 
@@ -216,7 +222,7 @@ fn held_as(field: u64) -> u64 {
 // Whether the table that was read is given back where what a table holds is let go, and what is held is kept.
 fn lets_go(rt: &impl Print, text: &[u8], field: u64, p: Program) -> io::Result<bool> {
     let expected = answers_made::made(held_as(field), 0, 0);
-    let kept = answers_made::of_cleared(clear::keep(p).status);
+    let kept = answers_made::of_cleared(answers_made::by_number(clear::keep(p).status));
     Ok(
         saying::agree(rt, Source::Keep, expected, kept)?
             && clear_ends(

@@ -1,16 +1,28 @@
 // What `fixpoint` says of a table that was read, at the front of a slice with room for it.
 #![tactic(auto)]
 
+ghost use Rattle.std.specs.Prelude.{◌≡◌};
 ghost use Rattle.lists.specs.Bytes.{Wrote};
 ghost use Rattle.printing.specs.Ready.{Ready, ReadyToList};
 ghost use Rattle.printing.specs.Texts.{lent_list};
-ghost use Rattle.say_fixed.specs.Texts.{work_slice, fixpoint_text};
+ghost use Rattle.say_fixed.specs.Texts.{by_number, work_slice, fixpoint_text};
 
 use printing::MOST_PLACES;
-use program::Program;
+use program::{Outcome, Program, Refusal};
 
 // The most words of a working slice.
 pub const MOST_WORDS: usize = 65536;
+
+// An outcome, with its number where it is a refusal.
+#[tactic(auto, unfolding(say_fixed::specs::Texts::by_number))]
+fn by_number(outcome: Result<Outcome, Refusal>) -> Result<Outcome, u8>
+    ensures { result ≡ by_number outcome }
+{
+    match outcome {
+        Ok(ended) => Ok(ended),
+        Err(refusal) => Err(u8::from(refusal)),
+    }
+}
 
 // A fixpoint of `p` on a day in the lent slices.
 fn put_steps(
@@ -25,7 +37,7 @@ fn put_steps(
     ensures { Wrote (fixpoint_text day models.old first.old second.old p) out.old result out.new }
 {
     let a = fixpoint::fixpoint(p, day, models, first, second);
-    let outcome = a.outcome;
+    let outcome = by_number(a.outcome);
     let m = a.written;
     say_fixed::put_fixed(p, &models[..m], outcome, m, out)
 }

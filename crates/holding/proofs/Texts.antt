@@ -14,6 +14,7 @@ use Rattle.text.specs.Render.{book_items, book_text, row_numbers, numbers_of, re
 use Rattle.wording.specs.Printed.{refused_line}
 use Rattle.held.specs.declared.HoldStatus.TheVariants.{New, Equal}
 use Rattle.program.specs.declared.Refusal.{Refusal}
+use Rattle.program.specs.Refusals.{number}
 use Rattle.held.specs.declared.HoldAnswer.{HoldAnswer}
 use Rattle.held.specs.declared.ClearAnswer.{ClearAnswer}
 use Rattle.held.specs.Holding.{held_as, hold_refusal, hold_of}
@@ -42,17 +43,17 @@ module _ (p : Program) (c : Clause) (f l : ℕ) (a : HoldAnswer) (e : a ≡ hold
     unfolding hold_text held_line
     hold_taken s t h = rw (← e, t) h
 
-    pub hold_refused : (q : Refusal) → a.status ≡ Err q → Wrote (refused_line q) xs r ys → Wrote (hold_text c f l p) xs r ys
+    pub hold_refused : (q : Refusal) (k : ℕ) → a.status ≡ Err q → k ≡ number q → Wrote (refused_line k) xs r ys → Wrote (hold_text c f l p) xs r ys
     unfolding hold_text held_line
-    hold_refused q t h = rw (← e, t) h
+    hold_refused q k t n h = rw (← e, t, ← n) h
 
     pub keep_taken : (s : HoldStatus) → a.status ≡ Ok s → Wrote (render (keep_of a.program).program) xs r ys → Wrote (keep_text c f l p) xs r ys
     unfolding keep_text unless_refused
     keep_taken s t h = rw (← e, t) h
 
-    pub keep_refused : (q : Refusal) → a.status ≡ Err q → Wrote (refused_line q) xs r ys → Wrote (keep_text c f l p) xs r ys
+    pub keep_refused : (q : Refusal) (k : ℕ) → a.status ≡ Err q → k ≡ number q → Wrote (refused_line k) xs r ys → Wrote (keep_text c f l p) xs r ys
     unfolding keep_text unless_refused
-    keep_refused q t h = rw (← e, t) h
+    keep_refused q k t n h = rw (← e, t, ← n) h
 
 module _ (p : Program) (a : ClearAnswer) (e : a ≡ keep_of p) (xs : List ℕ) where
   pub kept-ready : Sized p → Ready p xs → Ready a.program xs

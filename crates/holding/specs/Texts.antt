@@ -8,7 +8,7 @@ use Rattle.wording.specs.Printed.{refused_line}
 use Rattle.held.specs.declared.HoldStatus.{HoldStatus}
 use Rattle.held.specs.declared.HoldStatus.TheVariants.{New, Equal}
 use Rattle.program.specs.declared.Refusal.{Refusal}
-use Rattle.program.specs.Refusals.{verdict_of}
+use Rattle.program.specs.Refusals.{number, verdict_of}
 use Rattle.held.specs.Holding.{hold_of}
 use Rattle.held.specs.Clearing.{keep_of}
 use Rattle.printing.specs.Texts.{unless_refused}
@@ -28,7 +28,7 @@ status_line Equal = line_of (equal_word ∷ [])
 unfoldable pub held_line : Result HoldStatus Refusal → List ℕ
 unfolding status_line
 held_line (Ok s) = status_line s
-held_line (Err r) = refused_line r
+held_line (Err r) = refused_line (number r)
 
 unfoldable pub hold_text : Clause → ℕ → ℕ → Program → List ℕ
 hold_text c f l p = held_line (hold_of p c f l).status

@@ -37,6 +37,6 @@ pub fn put_hold(
     let answer = hold::hold(p, head, body, naf, first, last);
     match answer.status {
         Ok(status) => put_status(status, out),
-        Err(refusal) => printing::put_refused(refusal, out),
+        Err(refusal) => printing::put_refused(u8::from(refusal), out),
     }
 }

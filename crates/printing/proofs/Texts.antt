@@ -1,5 +1,4 @@
 -- What several words print: the room for it, and that it is the text that is meant. Assumes nothing.
-use Rattle.program.specs.declared.Refusal.{Refusal}
 use mathlib.Core.Path.{◌≡◌, refl, sym, ap, ◌∙◌}
 use mathlib.Core.List.{List, ◌∷◌, ◌++◌}
 use Prim.Native.Nat.{ℕ, zero, suc, ◌+◌, ◌-◌, ◌^◌, ◌≤◌, ◌<◌, min}
@@ -21,8 +20,8 @@ use Rattle.listings.proofs.Bounds.{listing-most, listing_is}
 use Rattle.printing.specs.Ready.{most_bytes, Ready, ReadyToList}
 
 -- ---- the line of a refusal
-pub refused_fits : (q : Refusal) (xs : List ℕ) → most_bytes ≤ length xs → length (refused_line q) ≤ length xs
-refused_fits q xs r = omega (arith, refused-most q)
+pub refused_fits : (n : ℕ) (xs : List ℕ) → n < 2 ^ 8 → most_bytes ≤ length xs → length (refused_line n) ≤ length xs
+refused_fits n xs h r = omega (arith, refused-most n (omega arith))
 
 -- ---- the names line and the lines of the models
 module _ (p : Program) (xs : List ℕ) (s : Ready p xs) where

@@ -7,7 +7,7 @@ ghost use Rattle.wording.specs.Printed.{refused_line};
 ghost use Rattle.listings.specs.Listing.{listing};
 ghost use Rattle.printing.specs.Ready.{most_bytes, ReadyToList};
 
-use program::{Program, Refusal};
+use program::Program;
 
 // The report's limit of nodes, which no search of a table that was read exceeds.
 pub const NODE_LIMIT: u64 = 33_554_431;
@@ -16,11 +16,11 @@ pub const NODE_LIMIT: u64 = 33_554_431;
 pub const MOST_PLACES: usize = 4096;
 
 // The line of a refusal, of a book or of a call.
-pub fn put_refused(refusal: Refusal, out: &mut [u8]) -> usize
+pub fn put_refused(number: u8, out: &mut [u8]) -> usize
     requires { most_bytes ≤ length out.old }
-    ensures { Wrote (refused_line refusal) out.old result out.new }
+    ensures { Wrote (refused_line number) out.old result out.new }
 {
-    wording::put_refused_line(out, refusal)
+    wording::put_refused_line(out, u64::from(number))
 }
 
 // The names line, and a line for each of the words, which are at most `MOST_PLACES`.

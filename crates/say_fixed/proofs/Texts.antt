@@ -1,6 +1,5 @@
 -- What `fixpoint` prints: the room for it, and that it is the text of the call's answer. Assumes nothing.
 use Rattle.program.specs.Refusals.{refusal_of}
-use Rattle.program.specs.declared.Refusal.{Refusal}
 use Rattle.std.specs.Prelude.{Result, Ok, Err}
 use mathlib.Core.Path.{◌≡◌, refl, sym, ap, ◌∙◌, subst}
 use mathlib.Core.Bool.{Bool, true, false, cond}
@@ -21,12 +20,12 @@ use Rattle.parts.specs.Overwriting.{overwrite}
 use Rattle.fix_answer.specs.Answer as fixed
 use Rattle.fix_answer.specs.Answer.{Fixes, room_of}
 use Rattle.printing.specs.Ready.{ReadyToList}
-use Rattle.printing.specs.Texts.{unless_refused, lent_list}
+use Rattle.printing.specs.Texts.{lent_list}
 use Rattle.printing.proofs.Texts.{zeros, cut_zeros}
-use Rattle.say_fixed.specs.Texts.{unless_ended, work_slice, fixed_text, fixpoint_text}
+use Rattle.say_fixed.specs.Texts.{by_number, unless_ended, work_slice, fixed_text, fixpoint_text}
 
 -- ---- the line of the outcome
-pub ended-most : (o : Result Outcome Refusal) (m : ℕ) → m < 2 ^ 64 → length (numbered (outcome_word o) m) ≤ 64
+pub ended-most : {R : Type 0} (o : Result Outcome R) (m : ℕ) → m < 2 ^ 64 → length (numbered (outcome_word o) m) ≤ 64
 ended-most o m h = omega (arith, numbered-most (outcome_word o) m h, outcome-most o)
 
 -- ---- lists of zeros, cut
@@ -37,13 +36,13 @@ fixpoint_cut d k j r q p xs m ys e f w =
     (subst (λ (l : List ℕ). Wrote (fixpoint_text d (take r (zeros 4096)) l l p) xs m ys) (cut_zeros q j 65536 f) w)
 
 -- ---- a refusal, or the models and the line of the outcome
-module _ (p : Program) (ws : List ℕ) (o : Result Outcome Refusal) (m : ℕ) (xs : List ℕ) (r : ℕ) (ys : List ℕ) where
-  pub fixed_refused_lem : (q : Refusal) → o ≡ Err q → Wrote (refused_line q) xs r ys → Wrote (fixed_text p ws o m) xs r ys
-  unfolding fixed_text unless_ended unless_refused
+module _ (p : Program) (ws : List ℕ) (o : Result Outcome ℕ) (m : ℕ) (xs : List ℕ) (r : ℕ) (ys : List ℕ) where
+  pub fixed_refused_lem : (q : ℕ) → o ≡ Err q → Wrote (refused_line q) xs r ys → Wrote (fixed_text p ws o m) xs r ys
+  unfolding fixed_text unless_ended
   fixed_refused_lem q e h = rw e h
 
   pub fixed-ended : (u : Outcome) → o ≡ Ok u → Wrote (listing p ws ++ numbered (outcome_word o) m) xs r ys → Wrote (fixed_text p ws o m) xs r ys
-  unfolding fixed_text unless_ended unless_refused
+  unfolding fixed_text unless_ended
   fixed-ended u e h = rw e (rw e at h)
 
 -- ---- the lent slices
@@ -77,6 +76,6 @@ module _ (p : Program) (d : ℕ) (l w v : List ℕ) (a : FixpointAnswer) (ms w' 
   pub fixed-ready : (xs : List ℕ) → ReadyToList p l xs → ReadyToList p (take a.written ms) xs
   fixed-ready xs q = let h = q.short in record { ready = q.ready; short = omega (arith, fixed-places, fixed_long) }
 
-  pub fixpoint_wrote : (xs : List ℕ) (r : ℕ) (ys : List ℕ) → Wrote (fixed_text p (take a.written ms) a.outcome a.written) xs r ys → Wrote (fixpoint_text d l w v p) xs r ys
+  pub fixpoint_wrote : (o : Result Outcome ℕ) → o ≡ by_number a.outcome → (xs : List ℕ) (r : ℕ) (ys : List ℕ) → Wrote (fixed_text p (take a.written ms) o a.written) xs r ys → Wrote (fixpoint_text d l w v p) xs r ys
   unfolding fixpoint_text
-  fixpoint_wrote xs r ys h = rw (← s.says, ← s.lists) h
+  fixpoint_wrote o e xs r ys h = rw (← s.says, ← s.lists, ← e) h

@@ -8,13 +8,13 @@ ghost use Rattle.listings.specs.Listing.{listing};
 ghost use Rattle.printing.specs.Ready.{ReadyToList};
 ghost use Rattle.say_fixed.specs.Texts.{fixed_text};
 
-use program::{Outcome, Program, Refusal};
+use program::{Outcome, Program};
 
 // The models, and the line of an outcome with the models written.
 fn put_ended(
     p: Program,
     words: &[u32],
-    outcome: Result<Outcome, Refusal>,
+    outcome: Result<Outcome, u8>,
     m: usize,
     out: &mut [u8],
 ) -> usize
@@ -30,7 +30,7 @@ fn put_ended(
 pub fn put_fixed(
     p: Program,
     words: &[u32],
-    outcome: Result<Outcome, Refusal>,
+    outcome: Result<Outcome, u8>,
     m: usize,
     out: &mut [u8],
 ) -> usize
@@ -38,7 +38,7 @@ pub fn put_fixed(
     ensures { Wrote (fixed_text p words.now outcome m) out.old result out.new }
 {
     match outcome {
-        Err(refusal) => printing::put_refused(refusal, out),
+        Err(number) => printing::put_refused(number, out),
         Ok(_) => put_ended(p, words, outcome, m, out),
     }
 }

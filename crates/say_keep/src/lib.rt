@@ -34,6 +34,6 @@ pub fn put_keep(
     let held = hold::hold(p, head, body, naf, first, last);
     match held.status {
         Ok(_) => put_kept(held.program, out),
-        Err(refusal) => printing::put_refused(refusal, out),
+        Err(refusal) => printing::put_refused(u8::from(refusal), out),
     }
 }

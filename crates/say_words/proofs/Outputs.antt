@@ -1,6 +1,5 @@
 -- What the words print, seen from outside. Assumes nothing.
-use Rattle.program.specs.Refusals.{refused_by}
-use mathlib.Core.Path.{◌≡◌, refl, ap, ◌∙◌, sym}
+use mathlib.Core.Path.{◌≡◌, refl, ap, ◌∙◌}
 use mathlib.Core.List.{List, ◌++◌}
 use Prim.Native.Nat.{ℕ}
 use Rattle.program.specs.Clauses.{clause_of}
@@ -8,10 +7,10 @@ use Rattle.text.specs.Lines.{values_line}
 use Rattle.text.specs.Render.{row_numbers}
 use Rattle.text.specs.Refusals.{refusal}
 use Rattle.text.specs.Reading.{read_of, IsAccepted}
-use Rattle.text.proofs.RoundTrip.{refused, refused_by_lem, written_back, read_sized}
+use Rattle.text.proofs.RoundTrip.{refused, written_back, read_sized}
 use Rattle.held.specs.Holding.{held_as, hold_refusal}
 use Rattle.holding.proofs.Texts.{keep-last_line}
-use Rattle.wording.specs.Printed.{refused_word, numbered, refused_line}
+use Rattle.wording.specs.Printed.{refused_line}
 use Rattle.printing.specs.Texts.{unless_refused, allowance}
 use Rattle.say_words.specs.declared.Command.{Command}
 use Rattle.say_words.specs.declared.Command.TheVariants.{Search, Write, Keep}
@@ -39,6 +38,6 @@ keep_is_book d h b n f l ns bs t a z =
     rw a (keep-last_line p (read_sized t a) c f l z ∙ ap (λ (x : List ℕ). x ++ values_line (row_numbers p.dated p.atom_count (held_as p c f l))) (written_back t a))
 
 -- Of a refused book every word prints the one line of its refusal.
-pub prints_refusal : (d : ℕ) (k : Command) (ns bs b : List ℕ) → (refusal b ≡ 0 → ⊥) → output d k ns bs b ≡ numbered refused_word (refusal b)
-unfolding output printed unless_refused refused_line
-prints_refusal d k ns bs b n = rw (refused b n) (ap (numbered refused_word) (ap (λ r. refused_by r.verdict) (sym (refused b n)) ∙ refused_by_lem b))
+pub prints_refusal : (d : ℕ) (k : Command) (ns bs b : List ℕ) → (refusal b ≡ 0 → ⊥) → output d k ns bs b ≡ refused_line (refusal b)
+unfolding output printed unless_refused
+prints_refusal d k ns bs b n = rw (refused b n).0 (ap refused_line (refused b n).1)

@@ -11,6 +11,7 @@ use Rattle.lists.specs.Bytes.{Wrote}
 use Rattle.program.specs.declared.Program.{Program}
 use Rattle.program.specs.Clauses.{clause_of}
 use Rattle.program.specs.declared.Refusal.{Refusal}
+use Rattle.program.specs.Refusals.{number}
 use Rattle.text.specs.declared.Read.{Read}
 use Rattle.text.specs.Reading.{read_of}
 use Rattle.text.specs.Render.{render}
@@ -53,9 +54,9 @@ module _ (b : List ℕ) (d : Read) (e : d ≡ read_of b) (xs : List ℕ) (h : mo
     unfolding output printed unless_refused
     run_read a w = prints (output t k ns bs b) xs r ys h (rw (← e, a) w)
 
-    pub run_refused : (q : Refusal) → d.verdict ≡ Err q → Wrote (refused_line q) xs r ys → Prints (output t k ns bs b) xs r ys
+    pub run_refused : (q : Refusal) (j : ℕ) → d.verdict ≡ Err q → j ≡ number q → Wrote (refused_line j) xs r ys → Prints (output t k ns bs b) xs r ys
     unfolding output printed unless_refused
-    run_refused q a w = prints (output t k ns bs b) xs r ys h (rw (← e, a) w)
+    run_refused q j a n w = prints (output t k ns bs b) xs r ys h (rw (← e, a, ← n) w)
 
 -- ---- each command has its text
 module _ (t : ℕ) (k : Command) (ns bs : List ℕ) (p : Program) (xs : List ℕ) (r : ℕ) (ys : List ℕ) where

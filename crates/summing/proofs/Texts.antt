@@ -9,6 +9,7 @@ use Rattle.sets.specs.Lists.{tabulate}
 use Rattle.lists.specs.Bytes.{Wrote}
 use Rattle.program.specs.declared.Program.{Program}
 use Rattle.program.specs.declared.Refusal.{Refusal}
+use Rattle.program.specs.Refusals.{number}
 use Rattle.program.specs.Names.{name_at, names_of}
 use Rattle.text.specs.Lines.{names_line}
 use Rattle.lines.specs.Laying.{Room}
@@ -45,9 +46,9 @@ module _ (p : Program) (words : List ℕ) (s : Summary) (e : s ≡ summary_of p 
   unfolding summarized_text unless_refused summary_lines
   summed_wrote t w = rw (← e, t) w
 
-  pub summed_refused : (q : Refusal) → s.verdict ≡ Err q → Wrote (refused_line q) xs r ys → Wrote (summarized_text words p) xs r ys
+  pub summed_refused : (q : Refusal) (k : ℕ) → s.verdict ≡ Err q → k ≡ number q → Wrote (refused_line k) xs r ys → Wrote (summarized_text words p) xs r ys
   unfolding summarized_text unless_refused summary_lines
-  summed_refused q t w = rw (← e, t) w
+  summed_refused q k t n w = rw (← e, t, ← n) w
 
 pub summary_wrote : (p : Program) (d : ℕ) (a : SearchAnswer) (ms : List ℕ) → Searches p d allowance lent a ms → (xs : List ℕ) (r : ℕ) (ys : List ℕ)
     → Wrote (summarized_text (take a.written ms) p) xs r ys → Wrote (summary_text d p) xs r ys

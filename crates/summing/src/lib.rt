@@ -25,7 +25,7 @@ fn put_summarized(p: Program, words: &[u32], out: &mut [u8]) -> usize
     let s = summarizer::summarize(p, words);
     match s.verdict {
         Ok(()) => put_lines(p, s, out),
-        Err(refusal) => printing::put_refused(refusal, out),
+        Err(refusal) => printing::put_refused(u8::from(refusal), out),
     }
 }
 

@@ -24,17 +24,21 @@ use Rattle.text.specs.Tables.{table_of, zero_table}
 use Rattle.text.specs.Render.{book_items, row_numbers, numbers_of, render}
 use Rattle.text.specs.Refusals.{refusal, refusals}
 use Rattle.text.specs.Reading.{row_of_numbers, program_of, read_of, IsAccepted}
-use Rattle.program.specs.Refusals.{refused_by, refusal_of, numbered}
+use Rattle.program.specs.Refusals.{number, refused_by, refusal_of, numbered}
 use Rattle.text.proofs.Books.{items_back, text_back, dated-again, names-again, rows-again}
 use Rattle.text.proofs.Tables.{names_of_table, rows_of_table, all_numbers, numbers_of_table, names_long, table_back, rows_back, good_table, valid_with, sized_with}
 use Rattle.text.proofs.Accepts.{accept_text, good_read}
 
 -- ---- the verdict is the refusal's number, and an accepted text comes with its table
+carried : (b : List ℕ) → (refusal b ≡ 0 → ⊥) → number (refusal_of (refusal b)) ≡ refusal b
+unfolding refusal rises numbers_known numbered
+carried b h = number_lowest (refusals b) refl refl h
+
 pub refused_by_lem : (b : List ℕ) → refused_by (read_of b).verdict ≡ refusal b
-unfolding read_of refusal rises numbers_known numbered
+unfolding read_of
 refused_by_lem b = ⊎_elim
     (λ t. rw t (sym (eqb-true (refusal b) 0 t)))
-    (λ f. rw f (number_lowest (refusals b) refl refl (λ z. clash (eqb (refusal b) 0) (eq-eqb (refusal b) 0 z) f)))
+    (λ f. rw f (carried b (λ z. clash (eqb (refusal b) 0) (eq-eqb (refusal b) 0 z) f)))
     (dec (eqb (refusal b) 0))
 
 pub cleared : (b : List ℕ) → IsAccepted b → refusal b ≡ 0
@@ -45,9 +49,9 @@ unfolding read_of
 taken b z = rw (eq-eqb (refusal b) 0 z)
 
 -- "A refusal carries its number; the reader's comes with an all-zero table"
-pub refused : (b : List ℕ) → (refusal b ≡ 0 → ⊥) → read_of b ≡ record { verdict = Err (refusal_of (refusal b)); program = zero_table }
+pub refused : (b : List ℕ) → (refusal b ≡ 0 → ⊥) → (read_of b ≡ record { verdict = Err (refusal_of (refusal b)); program = zero_table }) × (number (refusal_of (refusal b)) ≡ refusal b)
 unfolding read_of
-refused b h = rw (ne_eqb (refusal b) 0 h)
+refused b h = (rw (ne_eqb (refusal b) 0 h), carried b h)
 
 accepted : (b : List ℕ) → refusal b ≡ 0 → IsAccepted b
 accepted b z = ap (λ r. r.verdict) (taken b z)

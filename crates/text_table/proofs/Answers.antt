@@ -74,7 +74,7 @@ zero_is q u e = rw e
 module _ (b : List ℕ) (r : Read) where
   -- a refusal that is the lowest
   by_number : (q : Refusal) → refusal b ≡ number q → r ≡ refused_with q → r ≡ read_of b
-  by_number q e g = g ∙ ap refused_with (sym (refusal_is q (refusal b) (sym e))) ∙ sym (refused b (λ z. number_some q (sym e ∙ z)))
+  by_number q e g = g ∙ ap refused_with (sym (refusal_is q (refusal b) (sym e))) ∙ sym (refused b (λ z. number_some q (sym e ∙ z))).0
 
   pub read-early : (q : Refusal) → number q ≡ opening_refusal b → r ≡ refused_with q → r ≡ read_of b
   read-early q e g = by_number q (early b (λ z. number_some q (e ∙ z)) ∙ sym e) g

@@ -12,16 +12,23 @@ pub fn table_of(text: &[u8]) -> Program {
 }
 
 pub fn read(text: &[u8]) -> Answer {
-    answers_made::of_verdict(reader::read_program(text).verdict, 0)
+    answers_made::of_verdict(
+        answers_made::by_number(reader::read_program(text).verdict),
+        0,
+    )
 }
 
 pub fn write(p: Program, out: &mut [u8]) -> Answer {
-    answers_made::of_written(writer::write_program(p, out))
+    answers_made::of_written(answers_made::by_number(writer::write_program(p, out)))
 }
 
 pub fn search(p: Program, day: u16, limit: u64, list: &mut [u32]) -> Answer {
     let a = search::search(p, day, limit, list);
-    answers_made::of_outcome(a.outcome, a.written as u64, a.visited)
+    answers_made::of_outcome(
+        answers_made::by_number(a.outcome),
+        a.written as u64,
+        a.visited,
+    )
 }
 
 // The number of nodes of the whole tree.
@@ -35,11 +42,14 @@ pub fn fixpoint(p: Program, day: u16, list: &mut [u32]) -> Answer {
     let mut work = [0u64; 65536];
     let mut more_work = [0u64; 65536];
     let a = fixpoint::fixpoint(p, day, list, &mut work, &mut more_work);
-    answers_made::of_outcome(a.outcome, a.written as u64, 0)
+    answers_made::of_outcome(answers_made::by_number(a.outcome), a.written as u64, 0)
 }
 
 pub fn check(p: Program, day: u16, w: u32) -> Answer {
-    answers_made::of_checked(checker::check(p, day, w), u64::from(w))
+    answers_made::of_checked(
+        answers_made::by_number(checker::check(p, day, w)),
+        u64::from(w),
+    )
 }
 
 pub fn hold(p: Program, head: u32, body: u32, naf: u32, first: u16, last: u16) -> HoldAnswer {

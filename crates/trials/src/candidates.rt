@@ -90,7 +90,7 @@ fn agrees_inside(rt: &impl Print, p: Program, day: u16, words: &[u32]) -> io::Re
 }
 
 fn is_outside(rt: &impl Print, p: Program, day: u16, w: u32) -> io::Result<bool> {
-    let refused = answers_made::of_checked(Err(Refusal::OutsideWord), u64::from(w));
+    let refused = answers_made::of_checked(Err(u8::from(Refusal::OutsideWord)), u64::from(w));
     saying::agree(rt, Source::Check, refused, asking::check(p, day, w))
 }
 

@@ -42,7 +42,7 @@ fn holds_one(
     }
     let again = asking::hold(p, 1, 0, 0, 1, 0);
     let refused = answers_made::made(u64::from(u8::from(Refusal::AlreadyHeld)), 0, 0);
-    let answer = answers_made::of_held(again.status);
+    let answer = answers_made::of_held(answers_made::by_number(again.status));
     Ok(
         saying::agree(rt, Source::Hold, refused, answer)?
             && days::weighs(rt, again.program, day, 0, text, stored)?,
@@ -59,7 +59,7 @@ fn clears(
     text: &[u8],
     stored: &[u32],
 ) -> io::Result<bool> {
-    let answer = answers_made::of_cleared(a.status);
+    let answer = answers_made::of_cleared(answers_made::by_number(a.status));
     Ok(
         saying::agree(rt, source, cleared_as(found), answer)?
             && days::weighs(rt, a.program, day, 0, text, stored)?,
@@ -76,7 +76,7 @@ fn is_held(
     stored: &[u32],
 ) -> io::Result<bool> {
     let p = a.program;
-    let answer = answers_made::of_held(a.status);
+    let answer = answers_made::of_held(answers_made::by_number(a.status));
     Ok(
         saying::agree(rt, Source::Hold, held_as(found), answer)?
             && holds_one(rt, p, day, found, book, stored)?

@@ -35,8 +35,8 @@ pub fn has_verdict(rt: &impl Print, s: Summary, verdict: Verdict) -> io::Result<
     saying::agree(
         rt,
         Source::Summary,
-        answers_made::of_verdict(verdict, 0),
-        answers_made::of_verdict(s.verdict, 0),
+        answers_made::of_verdict(answers_made::by_number(verdict), 0),
+        answers_made::of_verdict(answers_made::by_number(s.verdict), 0),
     )
 }
 

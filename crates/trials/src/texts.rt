@@ -35,7 +35,7 @@ fn is_written(
     let mut out = [FREE; BYTES];
     let n = lent.min(BYTES);
     let found = asking::write(p, &mut out[..n]);
-    let expected = answers_made::of_written(written);
+    let expected = answers_made::of_written(answers_made::by_number(written));
     Ok(saying::agree(rt, Source::Writer, expected, found)? && holds(rt, &out, text)?)
 }
 

@@ -1,7 +1,4 @@
 -- How long a line of a word and numbers is. Assumes nothing.
-use Rattle.program.proofs.Lowest.{number_few}
-use Rattle.program.specs.Refusals.{number}
-use Rattle.program.specs.declared.Refusal.{Refusal}
 use Rattle.std.specs.Prelude.{Result, Ok, Err}
 use mathlib.Core.Path.{ap}
 use mathlib.Core.List.{List, [], ◌∷◌, ◌++◌}
@@ -32,18 +29,18 @@ numbered-most w v h = let q = worded-most w (v ∷ []) (omega arith) each in ome
     each zero l = h
     each (suc i) l = absurd (omega arith)
 
-pub refused-most : (r : Refusal) → length (refused_line r) ≤ 64
+pub refused-most : (r : ℕ) → r < 2 ^ 64 → length (refused_line r) ≤ 64
 unfolding refused_line refused_word
-refused-most r = omega (arith, numbered-most refused_word (number r) (let h = number_few r in omega arith))
+refused-most r h = omega (arith, numbered-most refused_word r h)
 
-pub outcome-most : (o : Result Outcome Refusal) → length (outcome_word o) ≤ 8
+pub outcome-most : {R : Type 0} (o : Result Outcome R) → length (outcome_word o) ≤ 8
 unfolding outcome_word refused_word
 outcome-most (Ok ended.Complete) = omega arith
 outcome-most (Ok ended.Full) = omega arith
 outcome-most (Ok ended.Spent) = omega arith
 outcome-most (Err r) = omega arith
 
-pub last-most : (o : Result Outcome Refusal) (m v : ℕ) → m < 2 ^ 64 → v < 2 ^ 64 → length (last_line o m v) ≤ 64
+pub last-most : {R : Type 0} (o : Result Outcome R) (m v : ℕ) → m < 2 ^ 64 → v < 2 ^ 64 → length (last_line o m v) ≤ 64
 unfolding last_line
 last-most o m v h k = let q = worded-most (outcome_word o) (m ∷ v ∷ []) (omega arith) each in omega (arith, outcome-most o)
   where

@@ -1,5 +1,4 @@
 -- A word and numbers behind it: the word, a space and the line of the numbers. Assumes nothing.
-use Rattle.program.specs.declared.Refusal.{Refusal}
 use Rattle.std.specs.Prelude.{Result}
 use mathlib.Core.Path.{◌≡◌, sym, ◌∙◌}
 use mathlib.Core.List.{List, [], ◌∷◌, ◌++◌, append_assoc, map}
@@ -30,7 +29,7 @@ module _ (w xs : List ℕ) (v : ℕ) where
   unfolding numbered
   numbered_wrote r ys t = rw (worded_is w (v ∷ []) (omega arith)) t
 
-module _ (o : Result Outcome Refusal) (xs : List ℕ) (m v : ℕ) where
+module _ {R : Type 0} (o : Result Outcome R) (xs : List ℕ) (m v : ℕ) where
   pub last_room : length (last_line o m v) ≤ length xs → Room 2 2 ((outcome_word o ++ 32 ∷ []) ++ values_line (m ∷ v ∷ [])) xs
   unfolding last_line
   last_room h = record { some = omega arith; few = omega arith; room = rw (← worded_is (outcome_word o) (m ∷ v ∷ []) (omega arith)) h }

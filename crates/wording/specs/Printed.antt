@@ -2,8 +2,6 @@
 use Rattle.std.specs.Prelude.{List, [], ◌∷◌, map, ℕ, Result, Ok, Err}
 use Rattle.program.specs.declared.Outcome.{Outcome}
 use Rattle.program.specs.declared.Outcome.TheVariants.{Complete, Full, Spent}
-use Rattle.program.specs.declared.Refusal.{Refusal}
-use Rattle.program.specs.Refusals.{number}
 use Rattle.decimal.specs.Decimal.{decimal}
 use Rattle.text.specs.Lines.{line_of}
 
@@ -11,7 +9,7 @@ use Rattle.text.specs.Lines.{line_of}
 unfoldable pub refused_word : List ℕ
 refused_word = 114 ∷ 101 ∷ 102 ∷ 117 ∷ 115 ∷ 101 ∷ 100 ∷ []
 
-unfoldable pub outcome_word : Result Outcome Refusal → List ℕ
+unfoldable pub outcome_word : {R : Type 0} → Result Outcome R → List ℕ
 unfolding refused_word
 outcome_word (Ok Complete) = 99 ∷ 111 ∷ 109 ∷ 112 ∷ 108 ∷ 101 ∷ 116 ∷ 101 ∷ []
 outcome_word (Ok Full) = 102 ∷ 117 ∷ 108 ∷ 108 ∷ []
@@ -26,9 +24,9 @@ unfoldable pub numbered : List ℕ → ℕ → List ℕ
 numbered w v = worded w (v ∷ [])
 
 -- "If refused it prints only one such line, as "refused 7"."
-unfoldable pub refused_line : Refusal → List ℕ
-refused_line r = numbered refused_word (number r)
+unfoldable pub refused_line : ℕ → List ℕ
+refused_line r = numbered refused_word r
 
 -- "a last line of outcome, models written and nodes visited"
-unfoldable pub last_line : Result Outcome Refusal → ℕ → ℕ → List ℕ
+unfoldable pub last_line : {R : Type 0} → Result Outcome R → ℕ → ℕ → List ℕ
 last_line o m v = worded (outcome_word o) (m ∷ v ∷ [])

@@ -7,7 +7,7 @@ ghost use Rattle.text.specs.Lines.{values_line};
 ghost use Rattle.lines.specs.Laying.{Room};
 ghost use Rattle.wording.specs.Printed.{outcome_word, numbered, refused_line, last_line};
 
-use program::{Outcome, Refusal};
+use program::Outcome;
 use text::SPACE;
 
 // A word, and the space behind it.
@@ -39,15 +39,15 @@ pub fn put_numbered_line(out: &mut [u8], word: &[u8], number: u64) -> usize
 }
 
 // The line of a refusal at the front of `out`, which has room for it; its length.
-pub fn put_refused_line(out: &mut [u8], refusal: Refusal) -> usize
-    requires { length (refused_line refusal) ≤ length out.old }
-    ensures { Wrote (refused_line refusal) out.old result out.new }
+pub fn put_refused_line(out: &mut [u8], number: u64) -> usize
+    requires { length (refused_line number) ≤ length out.old }
+    ensures { Wrote (refused_line number) out.old result out.new }
 {
-    put_numbered_line(out, b"refused", u64::from(u8::from(refusal)))
+    put_numbered_line(out, b"refused", number)
 }
 
 // The word of an outcome.
-fn outcome_word(outcome: Result<Outcome, Refusal>) -> &'static [u8]
+fn outcome_word<R: Copy>(outcome: Result<Outcome, R>) -> &'static [u8]
     ensures { result.now ≡ outcome_word outcome }
 {
     match outcome {
@@ -59,7 +59,12 @@ fn outcome_word(outcome: Result<Outcome, Refusal>) -> &'static [u8]
 }
 
 // A line of an outcome and of the first `n` values behind it.
-fn put_outcome(out: &mut [u8], outcome: Result<Outcome, Refusal>, values: &[u64], n: usize) -> usize
+fn put_outcome<R: Copy>(
+    out: &mut [u8],
+    outcome: Result<Outcome, R>,
+    values: &[u64],
+    n: usize,
+) -> usize
     requires { Room n (length values.now) ((outcome_word outcome ++ 32 ∷ []) ++ values_line (take n values.now)) out.old }
     ensures { Wrote ((outcome_word outcome ++ 32 ∷ []) ++ values_line (take n values.now)) out.old result out.new }
 {
@@ -67,7 +72,7 @@ fn put_outcome(out: &mut [u8], outcome: Result<Outcome, Refusal>, values: &[u64]
 }
 
 // A line of an outcome and a number at the front of `out`, which has room for it; its length.
-pub fn put_outcome_line(out: &mut [u8], outcome: Result<Outcome, Refusal>, m: u64) -> usize
+pub fn put_outcome_line<R: Copy>(out: &mut [u8], outcome: Result<Outcome, R>, m: u64) -> usize
     requires { length (numbered (outcome_word outcome) m) ≤ length out.old }
     ensures { Wrote (numbered (outcome_word outcome) m) out.old result out.new }
 {
@@ -75,7 +80,7 @@ pub fn put_outcome_line(out: &mut [u8], outcome: Result<Outcome, Refusal>, m: u6
 }
 
 // The last line of a search at the front of `out`, which has room for it; its length.
-pub fn put_last_line(out: &mut [u8], outcome: Result<Outcome, Refusal>, m: u64, v: u64) -> usize
+pub fn put_last_line<R: Copy>(out: &mut [u8], outcome: Result<Outcome, R>, m: u64, v: u64) -> usize
     requires { length (last_line outcome m v) ≤ length out.old }
     ensures { Wrote (last_line outcome m v) out.old result out.new }
 {

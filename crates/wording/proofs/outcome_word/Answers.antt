@@ -5,16 +5,16 @@ use Rattle.wording.proofs.outcome_word.Goals as goal
 
 pub returns-in-Ok-Complete : goal.returns-in-Ok-Complete
 unfolding outcome_word refused_word
-returns-in-Ok-Complete c = search rules
+returns-in-Ok-Complete g c = search rules
 
 pub returns-in-Ok-Full : goal.returns-in-Ok-Full
 unfolding outcome_word refused_word
-returns-in-Ok-Full c = search rules
+returns-in-Ok-Full g c = search rules
 
 pub returns-in-Ok-Spent : goal.returns-in-Ok-Spent
 unfolding outcome_word refused_word
-returns-in-Ok-Spent c = search rules
+returns-in-Ok-Spent g c = search rules
 
 pub returns-in-Err : goal.returns-in-Err
 unfolding outcome_word refused_word
-returns-in-Err c = search rules
+returns-in-Err g c = search rules

@@ -3,7 +3,7 @@ use Rattle.wording.proofs.Words.{last_room, last_wrote}
 use Rattle.wording.proofs.put_last_line.Goals as goal
 
 pub put_outcome-requires : goal.put_outcome-requires
-put_outcome-requires c = search last_room
+put_outcome-requires g c = search last_room
 
 pub returns : goal.returns
-returns c = search last_wrote
+returns g c = search last_wrote

@@ -3,7 +3,7 @@ use Rattle.wording.proofs.Words.{numbered_room, numbered_wrote}
 use Rattle.wording.proofs.put_outcome_line.Goals as goal
 
 pub put_outcome-requires : goal.put_outcome-requires
-put_outcome-requires c = search numbered_room
+put_outcome-requires g c = search numbered_room
 
 pub returns : goal.returns
-returns c = search numbered_wrote
+returns g c = search numbered_wrote
