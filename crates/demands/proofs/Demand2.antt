@@ -20,10 +20,9 @@ use Rattle.program.specs.Held.{released}
 use Rattle.program.specs.Values.{is_word}
 use Rattle.program.specs.Valid.{valid, Sized}
 use Rattle.program.specs.Refusals.{lowest}
-use Rattle.text.specs.declared.Read.{Read}
 use Rattle.text.specs.Lines.{first_items, is_dated}
 use Rattle.text.specs.Render.{render}
-use Rattle.text.specs.Reading.{read_of, IsAccepted}
+use Rattle.text.specs.Reading.{Read, read_of, IsAccepted}
 use Rattle.text.specs.Writing.{Writes, write_refusal, Written}
 use Rattle.text.specs.Writing as writing
 use Rattle.text.proofs.RoundTrip as trip

@@ -23,10 +23,9 @@ use Rattle.operator.specs.Operator.{stage}
 use Rattle.stages.specs.Run.{ending, crowded}
 use Rattle.program.specs.declared.Outcome.{Outcome}
 use Rattle.program.specs.declared.Outcome.TheVariants.{Complete, Full}
-use Rattle.fix_answer.specs.declared.FixpointAnswer.{FixpointAnswer}
 use Rattle.parts.specs.Overwriting.{overwrite}
 use Rattle.vocabulary.specs.Vocabulary.{vocabulary}
-use Rattle.fix_answer.specs.Answer.{transform_of, room_of, found, refusal, listed, refused, answer_of, exit_of}
+use Rattle.fix_answer.specs.Answer.{FixpointAnswer, transform_of, room_of, found, refusal, listed, refused, answer_of, exit_of}
 use Rattle.fix_answer.proofs.Lists.{found_models}
 use Rattle.fix_answer.proofs.Ending.{ends_run}
 use Rattle.demands.specs.Demand3.{outcome, written, all_models, Crowded, ByFixpoint}

@@ -10,9 +10,8 @@ use Rattle.program.specs.Held.{held_clause, nothing_held, released}
 use Rattle.program.specs.Valid.{valid, Sized}
 use Rattle.program.specs.declared.Refusal.{Refusal}
 use Rattle.program.specs.Refusals.{Applies, Lowest, Verdict, number, verdict_of}
-use Rattle.text.specs.declared.Read.{Read}
 use Rattle.text.specs.Refusals as reading
-use Rattle.text.specs.Reading.{read_of}
+use Rattle.text.specs.Reading.{Read, read_of}
 use Rattle.text.specs.Writing.{Written, write_refusals, written_length, Writes}
 use Rattle.stable.specs.declared.Checked.{Checked}
 use Rattle.stable.specs.Check.{Checks}
@@ -24,11 +23,9 @@ use Rattle.held.specs.declared.HoldAnswer.{HoldAnswer}
 use Rattle.held.specs.declared.ClearAnswer.{ClearAnswer}
 use Rattle.held.specs.Holding.{hold_refusals, hold_of}
 use Rattle.held.specs.Clearing.{clear_refusals, keep_of, release_of}
-use Rattle.tree.specs.declared.SearchAnswer.{SearchAnswer}
-use Rattle.tree.specs.Answer.{Searches}
+use Rattle.tree.specs.Answer.{SearchAnswer, Searches}
 use Rattle.tree.specs.Answer as searching
-use Rattle.fix_answer.specs.declared.FixpointAnswer.{FixpointAnswer}
-use Rattle.fix_answer.specs.Answer.{room_of, Fixes}
+use Rattle.fix_answer.specs.Answer.{FixpointAnswer, room_of, Fixes}
 use Rattle.fix_answer.specs.Answer as fixing
 
 -- ---- what demand 1 looks at in a call

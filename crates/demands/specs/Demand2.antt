@@ -11,10 +11,9 @@ use Rattle.program.specs.Held.{released}
 use Rattle.program.specs.Names.{names_of, ends_dated}
 use Rattle.program.specs.Values.{is_word, sum_for}
 use Rattle.program.specs.Valid.{valid, Sized}
-use Rattle.text.specs.declared.Read.{Read}
 use Rattle.text.specs.Lines.{lines, items, first_line, clause_lines, row}
 use Rattle.text.specs.Render.{book_items}
-use Rattle.text.specs.Reading.{row_of_numbers, read_of}
+use Rattle.text.specs.Reading.{Read, row_of_numbers, read_of}
 use Rattle.text.specs.Writing.{Writes, Written}
 use Rattle.semantics.specs.Definitions.{PStable}
 use Rattle.semantics.specs.Interpretations.{rules_of}

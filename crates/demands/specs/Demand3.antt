@@ -17,12 +17,10 @@ use Rattle.stages.specs.Run.{ending, EndsRun}
 use Rattle.program.specs.declared.Outcome.{Outcome}
 use Rattle.program.specs.declared.Outcome.TheVariants.{Complete, Full, Spent}
 use Rattle.tree.specs.Tree.{hits}
-use Rattle.tree.specs.declared.SearchAnswer.{SearchAnswer}
-use Rattle.tree.specs.Answer.{nodes_of, leaf_of, Searches}
+use Rattle.tree.specs.Answer.{SearchAnswer, nodes_of, leaf_of, Searches}
 use Rattle.tree.specs.Answer as search
-use Rattle.fix_answer.specs.declared.FixpointAnswer.{FixpointAnswer}
 use Rattle.vocabulary.specs.Vocabulary.{vocabulary}
-use Rattle.fix_answer.specs.Answer.{transform_of, room_of, Fixes}
+use Rattle.fix_answer.specs.Answer.{FixpointAnswer, transform_of, room_of, Fixes}
 use Rattle.fix_answer.specs.Answer as fixpoint
 
 -- ---- a run

@@ -1,6 +1,5 @@
 -- The ways that the fixpoint's routines return, one law for each, with premises that are what tests and callees give. Assumes nothing.
 use Rattle.program.specs.declared.Refusal.TheVariants.{TooLittleRoom, InvalidProgram, TooManyMembers}
-use Rattle.program.specs.declared.Refusal.{Refusal}
 use Rattle.std.specs.Prelude.{Ok, Err}
 use mathlib.Core.Path.{◌≡◌, refl, sym, ap, ap₂, ◌∙◌, subst}
 use mathlib.Core.Bool.{Bool, true, false, cond, not}
@@ -32,9 +31,8 @@ use Rattle.vocabulary.specs.Vocabulary.{literals_of, vocabulary}
 use Rattle.vocabulary.proofs.Counting.{names-few, clauses-few, column_fits, of_day_lem}
 use Rattle.transform.specs.Listing.{parts_of, listing}
 use Rattle.program.specs.declared.Outcome.TheVariants.{Complete, Full}
-use Rattle.fix_answer.specs.declared.FixpointAnswer.{FixpointAnswer}
 use Rattle.parts.specs.Overwriting.{overwrite, Overwrites}
-use Rattle.fix_answer.specs.Answer.{listed, refused, run_answer, run_exit, Answered, kappa, transform_of, found, room_of, refusal, answer_of}
+use Rattle.fix_answer.specs.Answer.{FixpointAnswer, listed, refused, run_answer, run_exit, Answered, kappa, transform_of, found, room_of, refusal, answer_of}
 use Rattle.fix_answer.specs.Answer.{exit_of, Fixes}
 use Rattle.fix_answer.proofs.Size.{program_short}
 
@@ -47,7 +45,7 @@ pub listed_some : (count places : ℕ) → places < count → record { outcome =
 unfolding listed
 listed_some count places h = let e : places ≡ min count places = omega arith in rw (lt-leb count places h) (ap (λ (w : ℕ). record { outcome = Ok Full; written = w }) e)
 
-pub refused_is : (r : Refusal) → record { outcome = Err r; written = 0 } ≡ refused r
+pub refused_is : {R : Type 0} (r : R) → record { outcome = Err r; written = 0 } ≡ refused r
 unfolding refused
 refused_is r = refl
 

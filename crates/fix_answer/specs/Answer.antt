@@ -12,16 +12,19 @@ use Rattle.vocabulary.specs.Vocabulary.{literals_of, vocabulary}
 use Rattle.program.specs.declared.Outcome.TheVariants.{Complete, Full}
 use Rattle.program.specs.declared.Refusal.{Refusal}
 use Rattle.program.specs.declared.Refusal.TheVariants.{TooLittleRoom}
-use Rattle.fix_answer.specs.declared.FixpointAnswer.{FixpointAnswer}
+use Rattle.fix_answer.specs.declared.FixpointAnswerWith.{FixpointAnswerWith}
 use Rattle.transform.specs.Listing.{listing}
 use Rattle.parts.specs.Overwriting.{overwrite}
+
+abbrev pub FixpointAnswer : Type 0
+FixpointAnswer = FixpointAnswerWith Refusal
 
 -- "Outcome: complete, or full if the list is too short for them all; it then holds the lowest ones, as many as fit."
 unfoldable pub listed : ℕ → ℕ → FixpointAnswer
 listed count places = record { outcome = Ok (cond (leb count places) Complete Full); written = min count places }
 
 -- "A refusal carries its number .. and counts are 0."
-unfoldable pub refused : Refusal → FixpointAnswer
+unfoldable pub refused : {R : Type 0} → R → FixpointAnswerWith R
 refused r = record { outcome = Err r; written = 0 }
 
 -- ---- over a positive program of words whose m lowest members are the literals

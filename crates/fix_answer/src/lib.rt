@@ -3,9 +3,12 @@
 
 use program::{Outcome, Refusal};
 
-// What a fixpoint answers; its outcome is never spent.
+// What a fixpoint answers, where an R tells why it is refused; its outcome is never spent.
 #[derive(Clone, Copy)]
-pub struct FixpointAnswer {
-    pub outcome: Result<Outcome, Refusal>,
+pub struct FixpointAnswerWith<R> {
+    pub outcome: Result<Outcome, R>,
     pub written: usize,
 }
+
+// What a fixpoint answers.
+pub type FixpointAnswer = FixpointAnswerWith<Refusal>;

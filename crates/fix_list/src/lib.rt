@@ -6,7 +6,7 @@ ghost use Rattle.sets.specs.Lists.{tabulate};
 ghost use Rattle.operator.specs.Operator.{rule_at};
 ghost use Rattle.fix_answer.specs.Answer.{listed, refused, Answered, room_of};
 
-use fix_answer::FixpointAnswer;
+use fix_answer::{FixpointAnswer, FixpointAnswerWith};
 use program::{Outcome, Refusal};
 
 // The answer where `count` words were to be listed in so many places.
@@ -27,10 +27,11 @@ fn answer(count: usize, places: usize) -> FixpointAnswer
 }
 
 // The answer of a refusal.
-pub fn refuse(refusal: Refusal) -> FixpointAnswer
+#[tactic(auto, using(fix_answer::proofs::Answering::refused_is))]
+pub fn refuse<R: Copy>(refusal: R) -> FixpointAnswerWith<R>
     ensures { result ≡ refused refusal }
 {
-    FixpointAnswer {
+    FixpointAnswerWith {
         outcome: Err(refusal),
         written: 0,
     }
@@ -82,3 +83,6 @@ pub fn list_models<'a>(
         &mut second[..room],
     )
 }
+
+#[cfg(test)]
+mod tests;

@@ -15,10 +15,9 @@ use Rattle.program.specs.declared.Outcome.{Outcome}
 use Rattle.wording.specs.Printed.{outcome_word, numbered, refused_line}
 use Rattle.wording.proofs.Bounds.{numbered-most, outcome-most}
 use Rattle.listings.specs.Listing.{listing}
-use Rattle.fix_answer.specs.declared.FixpointAnswer.{FixpointAnswer}
 use Rattle.parts.specs.Overwriting.{overwrite}
 use Rattle.fix_answer.specs.Answer as fixed
-use Rattle.fix_answer.specs.Answer.{Fixes, room_of}
+use Rattle.fix_answer.specs.Answer.{FixpointAnswer, Fixes, room_of}
 use Rattle.printing.specs.Ready.{ReadyToList}
 use Rattle.printing.specs.Texts.{lent_list}
 use Rattle.printing.proofs.Texts.{zeros, cut_zeros}

@@ -12,8 +12,7 @@ use Rattle.program.specs.declared.Program.{Program}
 use Rattle.program.specs.Clauses.{clause_of}
 use Rattle.program.specs.declared.Refusal.{Refusal}
 use Rattle.program.specs.Refusals.{number}
-use Rattle.text.specs.declared.Read.{Read}
-use Rattle.text.specs.Reading.{read_of}
+use Rattle.text.specs.Reading.{Read, read_of}
 use Rattle.text.specs.Render.{render}
 use Rattle.text.proofs.RoundTrip.{read_valid}
 use Rattle.wording.specs.Printed.{refused_line}

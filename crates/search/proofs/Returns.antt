@@ -16,9 +16,8 @@ use Rattle.program.specs.Valid.{valid}
 use Rattle.program.proofs.Validity.{valid_names, valid_clauses}
 use Rattle.program.proofs.Chosen.{only_valid}
 use Rattle.program.proofs.Days.{day_table}
-use Rattle.tree.specs.declared.SearchAnswer.{SearchAnswer}
 use Rattle.tree.specs.NodeTest.{dead}
-use Rattle.tree.specs.Answer.{answer, Searches, Ends}
+use Rattle.tree.specs.Answer.{SearchAnswer, answer, Searches, Ends}
 use Rattle.tree.proofs.Runs.{accepted, refused}
 use Rattle.columns.specs.Columns.{Columns}
 use Rattle.columns.proofs.Again.{columns_same}

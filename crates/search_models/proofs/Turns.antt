@@ -8,9 +8,8 @@ use native.Mathlib.Omega.{arith}
 use lib.ListN.{length, set, length-set}
 use Rattle.program.specs.Clauses.{Clause}
 use Rattle.program.specs.declared.Outcome.TheVariants.{Complete, Full, Spent}
-use Rattle.tree.specs.declared.SearchAnswer.{SearchAnswer}
 use Rattle.tree.specs.Tree.{Dead, tree, is_stable_leaf}
-use Rattle.tree.specs.Answer.{answer, Ends}
+use Rattle.tree.specs.Answer.{SearchAnswer, answer, Ends}
 use Rattle.semantics.specs.Interpretations.{is_stable}
 use Rattle.seek.specs.Seek.{Sought, Resumes, no_leaf, spent, from_word}
 use Rattle.tree.proofs.Machine.{state, on, runs, runs_answer}

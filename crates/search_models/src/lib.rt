@@ -9,14 +9,18 @@ ghost use Rattle.columns.specs.Columns.{Columns};
 ghost use Rattle.columns.specs.Play.{InPlay};
 ghost use Rattle.leaf.specs.Packed.{packed_at};
 
-use program::{Outcome, Refusal};
-use tree::SearchAnswer;
+use program::Outcome;
+use tree::{SearchAnswer, SearchAnswerWith};
 
 // What a search answers.
-pub fn ended(outcome: Result<Outcome, Refusal>, written: usize, visited: u64) -> SearchAnswer
+pub fn ended<R: Copy>(
+    outcome: Result<Outcome, R>,
+    written: usize,
+    visited: u64,
+) -> SearchAnswerWith<R>
     ensures { result ≡ answer outcome written visited }
 {
-    SearchAnswer {
+    SearchAnswerWith {
         outcome,
         written,
         visited,
@@ -67,3 +71,6 @@ pub fn search_clauses(
         from = w + 1;
     }
 }
+
+#[cfg(test)]
+mod tests;

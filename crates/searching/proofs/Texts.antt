@@ -10,13 +10,13 @@ use lib.ListN.{length, take}
 use lib.Seq.{length-take-le}
 use borrow.Author.Tests.{ltb-false}
 use Rattle.lists.specs.Bytes.{Wrote}
+use Rattle.program.specs.declared.Refusal.{Refusal}
 use Rattle.program.specs.declared.Program.{Program}
 use Rattle.program.specs.declared.Outcome.TheVariants as outcome
 use Rattle.wording.specs.Printed.{last_line}
 use Rattle.listings.specs.Listing.{listing}
-use Rattle.tree.specs.declared.SearchAnswer.{SearchAnswer}
 use Rattle.tree.specs.Tree.{Node, hits}
-use Rattle.tree.specs.Answer.{answer, overfull, full_at, run_answer, leaf_of, nodes_of, listed, Searches}
+use Rattle.tree.specs.Answer.{SearchAnswer, answer, overfull, full_at, run_answer, leaf_of, nodes_of, listed, Searches}
 use Rattle.tree.proofs.Runs.{accepted, same-places}
 use Rattle.printing.specs.Ready.{Ready, ReadyToList}
 use Rattle.printing.specs.Texts.{lent_list}
@@ -30,7 +30,7 @@ unfolding run_answer overfull
 run_fits hit ns A L = go (length (hits hit (take A ns))) (ltb L (length (hits hit (take A ns)))) refl (ltb A (length ns))
   where
     go : (f : ℕ) (b : Bool) → ltb L f ≡ b → (c : Bool)
-        → (cond b (answer (Ok outcome.Full) L (full_at hit ns L)) (cond c (answer (Ok outcome.Spent) f A) (answer (Ok outcome.Complete) f (length ns)))).written ≤ L
+        → (cond b (answer {R = Refusal} (Ok outcome.Full) L (full_at hit ns L)) (cond c (answer (Ok outcome.Spent) f A) (answer (Ok outcome.Complete) f (length ns)))).written ≤ L
     go f true e c = let q : L ≤ L = omega arith in q
     go f false e true = ltb-false _ _ e
     go f false e false = ltb-false _ _ e

@@ -18,8 +18,7 @@ use Rattle.summarylines.specs.Summary.{four_lines, flags_line}
 use Rattle.summarylines.proofs.Bounds.{summary_most}
 use Rattle.summary.specs.declared.Summary.{Summary}
 use Rattle.summary.specs.Summary.{summary_of}
-use Rattle.tree.specs.declared.SearchAnswer.{SearchAnswer}
-use Rattle.tree.specs.Answer.{listed, Searches}
+use Rattle.tree.specs.Answer.{SearchAnswer, listed, Searches}
 use Rattle.printing.specs.Ready.{Ready}
 use Rattle.printing.specs.Texts.{unless_refused, allowance, lent}
 use Rattle.printing.proofs.Texts.{some_names, few_names}

@@ -3,12 +3,15 @@ use Rattle.std.specs.Prelude.{◌≡◌, cond, List, map, ℕ, ◌+◌, eqb, len
 use Rattle.program.specs.declared.Program.{Program}
 use Rattle.program.specs.Clauses.{Row, row_of}
 use Rattle.program.specs.Values.{clause_of_values}
-use Rattle.text.specs.declared.Read.{Read}
+use Rattle.text.specs.declared.ReadWith.{ReadWith}
 use Rattle.program.specs.declared.Refusal.{Refusal}
 use Rattle.program.specs.Refusals.{refusal_of}
 use Rattle.text.specs.Lines.{is_dated, names, clause_lines, row}
 use Rattle.text.specs.Tables.{table_of, zero_table}
 use Rattle.text.specs.Refusals.{refusal}
+
+abbrev pub Read : Type 0
+Read = ReadWith Refusal
 
 -- the row that the numbers of a line are: the clause with the first n of them as its values, and its two days behind them, 0 where the line has none
 unfoldable pub row_of_numbers : ℕ → List ℕ → Row
@@ -20,7 +23,7 @@ unfolding row_of_numbers
 program_of b = table_of (is_dated b) (names b) (map (row_of_numbers (length (names b))) (map row (clause_lines b)))
 
 -- "A refusal carries its number; the reader's comes with an all-zero table"
-abbrev pub refused_with : Refusal → Read
+abbrev pub refused_with : {R : Type 0} → R → ReadWith R
 refused_with r = record { verdict = Err r; program = zero_table }
 
 -- the reader's answer

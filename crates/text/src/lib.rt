@@ -1,18 +1,21 @@
 // The bytes between items and behind lines, and what the reader and the writer answer.
 #![tactic(auto)]
 
-use program::{Program, Refusal, Verdict};
+use program::{Program, Refusal};
 
 pub const SPACE: u8 = 32;
 
 pub const NEWLINE: u8 = 10;
 
-// What a text is read as; the program is all zero where the text is refused.
+// What a text is read as, where an R tells why it is refused; the program is all zero where the text is refused.
 #[derive(Clone, Copy)]
-pub struct Read {
-    pub verdict: Verdict,
+pub struct ReadWith<R> {
+    pub verdict: Result<(), R>,
     pub program: Program,
 }
+
+// What the reader answers.
+pub type Read = ReadWith<Refusal>;
 
 // The length of the text that was written, or the refusal.
 pub type Written = Result<usize, Refusal>;

@@ -6,14 +6,14 @@ ghost use Rattle.sets.specs.Lists.{every};
 ghost use Rattle.lists.specs.Bytes.{pieces, padded};
 ghost use Rattle.program.specs.Names.{is_name};
 ghost use Rattle.text.specs.Lines.{is_dated, names};
-ghost use Rattle.text.specs.Tables.{placed};
+ghost use Rattle.text.specs.Tables.{placed, zero_table};
 ghost use Rattle.text.specs.Refusals.{opening_refusal, clause_broken};
 ghost use Rattle.text.specs.Reading.{program_of, refused_with};
 ghost use Rattle.clauselines.specs.Gathered.{clauses_of};
 
 use clauselines::ClauseLines;
-use program::{Program, Refusal};
-use text::{Read, SPACE};
+use program::Program;
+use text::{ReadWith, SPACE};
 
 // The names on a line, each at the front of its place of eight bytes; `out` is all zero before.
 fn put_names(out: &mut [u8], line: &[u8])
@@ -66,11 +66,12 @@ pub fn table_of(text: &[u8], n: usize, dated: bool, lines: ClauseLines) -> Progr
     }
 }
 
-// A refusal and the all-zero table.
-pub fn refused(refusal: Refusal) -> Read
-    ensures { result ≡ refused_with refusal }
+// The table of a refusal, with nothing held.
+#[tactic(auto, unfolding(text::specs::Tables::zero_table))]
+fn zero_table() -> Program
+    ensures { result ≡ zero_table }
 {
-    let program = Program {
+    Program {
         atom_count: 0,
         atom_names: [0; 96],
         clause_count: 0,
@@ -81,9 +82,18 @@ pub fn refused(refusal: Refusal) -> Read
         firsts: [0; 64],
         lasts: [0; 64],
         held: table_fields::nothing_held(),
-    };
-    Read {
-        verdict: Err(refusal),
-        program,
     }
 }
+
+// A refusal and the all-zero table.
+pub fn refused<R: Copy>(refusal: R) -> ReadWith<R>
+    ensures { result ≡ refused_with refusal }
+{
+    ReadWith {
+        verdict: Err(refusal),
+        program: zero_table(),
+    }
+}
+
+#[cfg(test)]
+mod tests;

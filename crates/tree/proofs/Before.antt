@@ -17,10 +17,9 @@ use Rattle.program.specs.Clauses.{Clause}
 use Rattle.program.specs.Days.{clauses}
 use Rattle.program.specs.Valid.{valid}
 use Rattle.semantics.specs.Interpretations.{is_stable}
-use Rattle.tree.specs.declared.SearchAnswer.{SearchAnswer}
 use Rattle.tree.specs.Tree.{Node, node, Dead, nodes, tree, node_count, is_stable_leaf, hits}
 use Rattle.tree.specs.NodeTest.{violated, dead}
-use Rattle.tree.specs.Answer.{full_at, run_answer, listing, run_exit, Searches, Ends}
+use Rattle.tree.specs.Answer.{SearchAnswer, full_at, run_answer, listing, run_exit, Searches, Ends}
 use Rattle.tree.specs.Before.{AsBefore}
 use Rattle.tree.proofs.Nodes.{low_out, low_in, hits-append, not_leaf, stable_is_leaf, leaves_from, none_from, from_double}
 use Rattle.tree.proofs.Support.{violated-dead, dead_below}

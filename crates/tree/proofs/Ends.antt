@@ -13,9 +13,8 @@ use borrow.Author.Tests.{ltb-true, ltb-false}
 use Rattle.sets.proofs.Tests.{lt_or_ge}
 use Rattle.sets.proofs.Least.{least_hit, least_miss}
 use Rattle.program.specs.declared.Outcome.TheVariants.{Complete, Full, Spent}
-use Rattle.tree.specs.declared.SearchAnswer.{SearchAnswer}
 use Rattle.tree.specs.Tree.{Node, hits}
-use Rattle.tree.specs.Answer.{answer, overfull, full_at, run_answer}
+use Rattle.tree.specs.Answer.{SearchAnswer, answer, overfull, full_at, run_answer}
 
 -- ---- the node at which one p-stable leaf too many has been visited
 module _ (hit : Node → Bool) (xs : List Node) (L : ℕ) where

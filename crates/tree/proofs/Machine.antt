@@ -18,9 +18,8 @@ use Rattle.sets.proofs.Tests.{dec}
 use Rattle.sets.proofs.Least.{least_suc}
 use Rattle.program.specs.declared.Outcome.{Outcome}
 use Rattle.program.specs.declared.Outcome.TheVariants.{Complete, Full, Spent}
-use Rattle.tree.specs.declared.SearchAnswer.{SearchAnswer}
 use Rattle.tree.specs.Tree.{Node, hits}
-use Rattle.tree.specs.Answer.{answer, overfull, full_at, run_answer, listing, run_exit}
+use Rattle.tree.specs.Answer.{SearchAnswer, answer, overfull, full_at, run_answer, listing, run_exit}
 
 pub record State : Type 0 where
   pub so_far : SearchAnswer

@@ -1,4 +1,5 @@
 -- What every search answers and lists, for every table, every node limit A and every lent list l. Assumes nothing.
+use Rattle.program.specs.declared.Refusal.{Refusal}
 use Rattle.program.specs.declared.Refusal.TheVariants.{InvalidProgram}
 use Rattle.std.specs.Prelude.{Ok, Err}
 use mathlib.Core.Path.{◌≡◌, refl, sym, ap}
@@ -58,7 +59,7 @@ module _ (hit : Node → Bool) (xs : List Node) (A : ℕ) where
   written_is L = go (ltb L (length (hits hit (take A xs)))) refl (ltb A (length xs))
     where
       go : (b : Bool) → ltb L (length (hits hit (take A xs))) ≡ b → (c : Bool)
-          → (cond b (answer (Ok Full) L (full_at hit xs L)) (cond c (answer (Ok Spent) (length (hits hit (take A xs))) A) (answer (Ok Complete) (length (hits hit (take A xs))) (length xs)))).written
+          → (cond b (answer {R = Refusal} (Ok Full) L (full_at hit xs L)) (cond c (answer (Ok Spent) (length (hits hit (take A xs))) A) (answer (Ok Complete) (length (hits hit (take A xs))) (length xs)))).written
           ≡ length (take L (hits hit (take A xs)))
       go true e c =
           let h : L < length (hits hit (take A xs)) = ltb-true _ _ e in

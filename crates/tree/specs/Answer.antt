@@ -12,12 +12,15 @@ use Rattle.program.specs.Refusals.{lowest, refusal_of}
 use Rattle.program.specs.declared.Outcome.{Outcome}
 use Rattle.program.specs.declared.Outcome.TheVariants.{Complete, Full, Spent}
 use Rattle.program.specs.declared.Refusal.{Refusal}
-use Rattle.tree.specs.declared.SearchAnswer.{SearchAnswer}
+use Rattle.tree.specs.declared.SearchAnswerWith.{SearchAnswerWith}
 use Rattle.tree.specs.Tree.{Node, Dead, tree, is_stable_leaf, hits}
 use Rattle.tree.specs.NodeTest.{dead}
 
+abbrev pub SearchAnswer : Type 0
+SearchAnswer = SearchAnswerWith Refusal
+
 -- "The answer has outcome, models written and nodes visited."
-abbrev pub answer : Result Outcome Refusal → ℕ → ℕ → SearchAnswer
+abbrev pub answer : {R : Type 0} → Result Outcome R → ℕ → ℕ → SearchAnswerWith R
 answer o n v = record { outcome = o; written = n; visited = v }
 
 -- ---- a run over the nodes xs, with the test `hit` of p-stable leaves, the node limit A (document 01's allowance) and a list of L places

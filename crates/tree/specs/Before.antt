@@ -1,7 +1,7 @@
 -- What the node test leaves as it was: a run under document 01's test of dead nodes, and the same run under the node test. Assumes nothing.
 use Rattle.std.specs.Prelude.{◌≡◌, List, ℕ, ◌≤◌, Ok}
 use Rattle.program.specs.declared.Outcome.TheVariants.{Spent}
-use Rattle.tree.specs.declared.SearchAnswer.{SearchAnswer}
+use Rattle.tree.specs.Answer.{SearchAnswer}
 
 -- Two runs of one book, with the same node limit and the same list lent: under document 01's test alone it answered a and left the list l,
 -- under the node test it answers b and leaves m. "N counts the smaller tree; a run that is spent under neither rule must list just what it did before."

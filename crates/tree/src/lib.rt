@@ -11,10 +11,13 @@ pub enum NodeStatus {
     Unsupported,
 }
 
-// What a search answers.
+// What a search answers, where an R tells why it is refused.
 #[derive(Clone, Copy)]
-pub struct SearchAnswer {
-    pub outcome: Result<Outcome, Refusal>,
+pub struct SearchAnswerWith<R> {
+    pub outcome: Result<Outcome, R>,
     pub written: usize,
     pub visited: u64,
 }
+
+// What a search answers.
+pub type SearchAnswer = SearchAnswerWith<Refusal>;
