@@ -16,6 +16,7 @@ use Rattle.fix_answer.specs.declared.FixpointAnswerWith.{FixpointAnswerWith}
 use Rattle.transform.specs.Listing.{listing}
 use Rattle.parts.specs.Overwriting.{overwrite}
 
+-- the fixpoint's answer has a refusal where the call refuses; `FixpointAnswerWith R` has an R there
 abbrev pub FixpointAnswer : Type 0
 FixpointAnswer = FixpointAnswerWith Refusal
 

@@ -3,12 +3,12 @@
 
 use program::{Outcome, Refusal};
 
-// What a fixpoint answers, where an R tells why it is refused; its outcome is never spent.
+// What a fixpoint answers, with an `R` where it is refused; its outcome is never spent.
 #[derive(Clone, Copy)]
 pub struct FixpointAnswerWith<R> {
     pub outcome: Result<Outcome, R>,
     pub written: usize,
 }
 
-// What a fixpoint answers.
+// What the fixpoint answers, with a `Refusal` there.
 pub type FixpointAnswer = FixpointAnswerWith<Refusal>;

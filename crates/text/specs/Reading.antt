@@ -10,6 +10,7 @@ use Rattle.text.specs.Lines.{is_dated, names, clause_lines, row}
 use Rattle.text.specs.Tables.{table_of, zero_table}
 use Rattle.text.specs.Refusals.{refusal}
 
+-- the reader's answer has a refusal where the call refuses; `ReadWith R` has an R there
 abbrev pub Read : Type 0
 Read = ReadWith Refusal
 

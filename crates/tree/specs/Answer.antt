@@ -16,6 +16,7 @@ use Rattle.tree.specs.declared.SearchAnswerWith.{SearchAnswerWith}
 use Rattle.tree.specs.Tree.{Node, Dead, tree, is_stable_leaf, hits}
 use Rattle.tree.specs.NodeTest.{dead}
 
+-- the search's answer has a refusal where the call refuses; `SearchAnswerWith R` has an R there
 abbrev pub SearchAnswer : Type 0
 SearchAnswer = SearchAnswerWith Refusal
 

@@ -11,7 +11,7 @@ pub enum NodeStatus {
     Unsupported,
 }
 
-// What a search answers, where an R tells why it is refused.
+// What a search answers, with an `R` where it is refused.
 #[derive(Clone, Copy)]
 pub struct SearchAnswerWith<R> {
     pub outcome: Result<Outcome, R>,
@@ -19,5 +19,5 @@ pub struct SearchAnswerWith<R> {
     pub visited: u64,
 }
 
-// What a search answers.
+// What the search answers, with a `Refusal` there.
 pub type SearchAnswer = SearchAnswerWith<Refusal>;
