@@ -2,13 +2,13 @@
 use Rattle.program.proofs.Lowest.{refusal_is, number_some}
 use Rattle.program.specs.declared.Refusal.TheVariants.{ClauseBroken, OnlyZeros, DaysReversed}
 use Rattle.program.specs.declared.Refusal.{Refusal}
-use Rattle.std.specs.Prelude.{Ok}
+use Rattle.std.specs.Prelude.{Ok, Err}
 use mathlib.Core.Path.{◌≡◌, refl, sym, ap, ◌∙◌}
 use mathlib.Core.Bool.{Bool, true, false}
 use mathlib.Core.List.{List, [], ◌∷◌}
 use Prim.Native.Nat.{ℕ, ◌+◌, ◌≤◌}
 use native.Mathlib.Omega.{arith}
-use lib.ListN.{length, take}
+use lib.ListN.{length, take, replicate}
 use Rattle.sets.specs.Lists.{every}
 use Rattle.lists.specs.Bytes.{pieces, padded, CountOf}
 use Rattle.lists.proofs.Pieces.{length-pieces}
@@ -18,7 +18,7 @@ use Rattle.program.specs.Refusals.{lowest, number}
 use Rattle.program.specs.declared.HeldClause.{HeldClause}
 use Rattle.program.specs.declared.Program.{Program}
 use Rattle.text.specs.Lines.{HasLine, is_dated, names}
-use Rattle.text.specs.Tables.{placed, table_of}
+use Rattle.text.specs.Tables.{placed, table_of, zero_table}
 use Rattle.text.specs.Refusals.{clause_broken, opening_refusal, refusal}
 use Rattle.text.specs.Reading.{Read, program_of, refused_with, read_of}
 use Rattle.text.proofs.Fits.{early, late, opened}
@@ -51,6 +51,26 @@ module _ (b : List ℕ) (e : ℕ) (q : NamesEnd b e) where
   names_put out f = f ∙ ap (λ (l : List (List ℕ)). padded 96 (placed l)) (sym q.items)
 
 -- ---- the answers
+-- the answer of a refusal, for a caller that writes the record out
+pub zero_is : {R : Type 0} (q : R) (u : HeldClause) → u ≡ nothing_held
+    → record {
+      verdict = Err q;
+      program = record {
+        atom_count = 0;
+        atom_names = replicate 96 0;
+        clause_count = 0;
+        heads = replicate 64 0;
+        bodies = replicate 64 0;
+        nafs = replicate 64 0;
+        dated = false;
+        firsts = replicate 64 0;
+        lasts = replicate 64 0;
+        held = u;
+      };
+    } ≡ refused_with q
+unfolding zero_table
+zero_is q u e = rw e
+
 module _ (b : List ℕ) (r : Read) where
   -- a refusal that is the lowest
   by_number : (q : Refusal) → refusal b ≡ number q → r ≡ refused_with q → r ≡ read_of b
